@@ -1,0 +1,4 @@
+pub mod Laws
+pub mod Accepted
+pub mod Answers
+pub mod Numbers

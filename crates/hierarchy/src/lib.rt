@@ -1,0 +1,416 @@
+// Kinds 5 to 8: roles are created and deleted, edges inserted and deleted.
+ghost use mathlib.Core.Path.{_≡_};
+ghost use Prim.Native.Nat.{_≤_};
+ghost use lib.Dec.{eqb};
+ghost use Rattle.sets.specs.Tests.{_or_};
+ghost use Rattle.sets.specs.Sets.{has};
+ghost use Rattle.order.specs.Order.{senior};
+ghost use Rattle.ranges.specs.Rows.{within};
+ghost use Rattle.policy.specs.Good.{Sizes};
+ghost use Rattle.policy.specs.Outcome.{first};
+ghost use Rattle.hierarchy.specs.Rules.{site, createIn, rowAllows, mayModify, unknownRole, unknownPair, spoils, rowNames, tableNames, rangesName, named, someIn, createRules, deleteRules, insertRules, cutRules, createRole, deleteRole, insertEdge, deleteEdge};
+use order::Order;
+use order::create;
+use order::cut_edge;
+use order::insert;
+use order::is_at_least;
+use order::is_comparable;
+use order::is_edge_in;
+use order::is_senior_in;
+use order::reached;
+use order::remove;
+use policy::Answer;
+use policy::Members;
+use policy::Policy;
+use policy::Ranges;
+use policy::Row;
+use policy::Table;
+use policy::Tables;
+use policy::accepted;
+use policy::office_of;
+use policy::refused;
+use policy::with_roles;
+use ranges::ModifyRow;
+use ranges::in_range;
+use ranges::is_unsound;
+use sets::contains;
+use sets::has;
+use sets::lowest_free;
+use sets::size;
+
+// What kinds 5 to 8 look at, for an officer.
+pub struct Site {
+    pub known: bool,
+    pub roles: Order,
+    pub usable: u64,
+    pub modify: Ranges,
+}
+
+pub fn site_of(p: Policy, o: u64) -> Site
+    ensures { λ r. ⌜ r ≡ site p o ⌝ }
+{
+    let people = p.people;
+    let users = people.users;
+    let orders = p.orders;
+    let roles = orders.roles;
+    let modify = p.modify;
+    Site {
+        known: o < users.count as u64,
+        roles,
+        usable: reached(orders.admins, office_of(people, o)),
+        modify,
+    }
+}
+
+// Is a strictly inside the row's range?
+fn lies_in(juniors: &[u64], a: usize, row: ModifyRow) -> bool
+    ensures { λ r. ⌜ r ≡ within (senior (now (juniors .entry))) row a ⌝ }
+{
+    in_range(juniors, row.low, row.high, 0, a)
+}
+
+// Kind 5: is low equal or junior to b, and a equal or junior to high?
+fn creates_in(juniors: &[u64], a: usize, b: usize, row: ModifyRow) -> bool
+    ensures { λ r. ⌜ r ≡ createIn (senior (now (juniors .entry))) a b row ⌝ }
+{
+    let bottom = row.low.0 as usize;
+    let top = row.high.0 as usize;
+    if !is_at_least(juniors, b, bottom) {
+        return false;
+    }
+    is_at_least(juniors, top, a)
+}
+
+// Has the row what a request of the kind needs?
+fn row_allows(juniors: &[u64], kind: u64, a: usize, b: usize, row: ModifyRow) -> bool
+    ensures { λ r. ⌜ r ≡ rowAllows kind (senior (now (juniors .entry))) a b row ⌝ }
+{
+    if kind == 5 {
+        return creates_in(juniors, a, b, row);
+    }
+    if kind == 6 {
+        return lies_in(juniors, a, row);
+    }
+    if !lies_in(juniors, a, row) {
+        return false;
+    }
+    lies_in(juniors, b, row)
+}
+
+// Has some row that the officer may use what a request of the kind needs?
+pub fn may_modify(site: Site, kind: u64, a: usize, b: usize) -> bool
+    requires { ⌜ site .modify .count ≤ 64 ⌝ }
+    ensures { λ r. ⌜ r ≡ mayModify site kind a b ⌝ }
+{
+    let order = site.roles;
+    let juniors = order.juniors;
+    let modify = site.modify;
+    let count = modify.count;
+    let mut i = 0;
+    while i < count {
+        let row = modify.rows[i];
+        if contains(site.usable, row.admin.0 as u64) {
+            if row_allows(&juniors, kind, a, b, row) {
+                return true;
+            }
+        }
+        i += 1;
+    }
+    false
+}
+
+// Number 2 for one role.
+fn is_unknown_role(site: Site, a: u64) -> bool
+    ensures { λ r. ⌜ r ≡ unknownRole site a ⌝ }
+{
+    let order = site.roles;
+    if !site.known {
+        return true;
+    }
+    !contains(order.used, a)
+}
+
+// Number 2 for two roles.
+fn is_unknown_pair(site: Site, a: u64, b: u64) -> bool
+    ensures { λ r. ⌜ r ≡ unknownPair site a b ⌝ }
+{
+    let order = site.roles;
+    if !site.known {
+        return true;
+    }
+    if !contains(order.used, a) {
+        return true;
+    }
+    !contains(order.used, b)
+}
+
+// Number 9: would some range be unsound in the order after?
+fn is_spoilt(site: Site, after: Order) -> bool
+    requires { ⌜ site .modify .count ≤ 64 ⌝ }
+    ensures { λ r. ⌜ r ≡ spoils site after ⌝ }
+{
+    let modify = site.modify;
+    let rows = modify.rows;
+    is_unsound(rows, modify.count, after)
+}
+
+// Kind 5: the first refusal that holds, or 0.
+pub fn create_outcome(site: Site, a: u64, b: u64) -> u64
+    requires { ⌜ site .modify .count ≤ 64 ⌝ }
+    ensures { λ r. ⌜ r ≡ first (createRules site a b) ⌝ }
+{
+    if is_unknown_pair(site, a, b) {
+        return 2;
+    }
+    let parent = a as usize;
+    let child = b as usize;
+    if !may_modify(site, 5, parent, child) {
+        return 3;
+    }
+    let order = site.roles;
+    if !is_senior_in(order, parent, child) {
+        return 5;
+    }
+    if size(order.used) == 64 {
+        return 6;
+    }
+    let after = create(order, lowest_free(order.used), parent, child);
+    if is_spoilt(site, after) {
+        return 9;
+    }
+    0
+}
+
+// Kind 6: names and members say whether some row names a and whether someone is in a.
+pub fn delete_outcome(site: Site, names: bool, members: bool, a: u64, b: u64) -> u64
+    requires { ⌜ site .modify .count ≤ 64 ⌝ }
+    ensures { λ r. ⌜ r ≡ first (deleteRules site names members a b) ⌝ }
+{
+    if b != 0 {
+        return 1;
+    }
+    if is_unknown_role(site, a) {
+        return 2;
+    }
+    if !may_modify(site, 6, a as usize, b as usize) {
+        return 3;
+    }
+    if names {
+        return 7;
+    }
+    if members {
+        return 8;
+    }
+    0
+}
+
+// Kind 7.
+pub fn insert_outcome(site: Site, a: u64, b: u64) -> u64
+    requires { ⌜ site .modify .count ≤ 64 ⌝ }
+    ensures { λ r. ⌜ r ≡ first (insertRules site a b) ⌝ }
+{
+    if is_unknown_pair(site, a, b) {
+        return 2;
+    }
+    let upper = a as usize;
+    let lower = b as usize;
+    if !may_modify(site, 7, upper, lower) {
+        return 3;
+    }
+    let order = site.roles;
+    if is_comparable(order, upper, lower) {
+        return 5;
+    }
+    if is_spoilt(site, insert(order, upper, lower)) {
+        return 9;
+    }
+    0
+}
+
+// Kind 8.
+pub fn cut_outcome(site: Site, a: u64, b: u64) -> u64
+    requires { ⌜ site .modify .count ≤ 64 ⌝ }
+    ensures { λ r. ⌜ r ≡ first (cutRules site a b) ⌝ }
+{
+    if is_unknown_pair(site, a, b) {
+        return 2;
+    }
+    let upper = a as usize;
+    let lower = b as usize;
+    if !may_modify(site, 8, upper, lower) {
+        return 3;
+    }
+    let order = site.roles;
+    if !is_edge_in(order, upper, lower) {
+        return 5;
+    }
+    if is_spoilt(site, cut_edge(order, upper, lower)) {
+        return 9;
+    }
+    0
+}
+
+// Is a an end, a needed or a barred role of the row?
+fn row_names(row: Row, a: usize) -> bool
+    ensures { λ r. ⌜ r ≡ rowNames row a ⌝ }
+{
+    let role = a as u64;
+    if a == row.low.0 as usize {
+        return true;
+    }
+    if a == row.high.0 as usize {
+        return true;
+    }
+    if contains(row.needed, role) {
+        return true;
+    }
+    contains(row.barred, role)
+}
+
+fn table_names(table: Table, a: usize) -> bool
+    requires { ⌜ table .count ≤ 64 ⌝ }
+    ensures { λ r. ⌜ r ≡ tableNames table a ⌝ }
+{
+    let count = table.count;
+    let mut i = 0;
+    while i < count {
+        if row_names(table.rows[i], a) {
+            return true;
+        }
+        i += 1;
+    }
+    false
+}
+
+fn range_names(row: ModifyRow, a: usize) -> bool
+    ensures { λ r. ⌜ r ≡ (eqb a (row .low .0) or eqb a (row .high .0)) ⌝ }
+{
+    if a == row.low.0 as usize {
+        return true;
+    }
+    a == row.high.0 as usize
+}
+
+fn ranges_name(modify: Ranges, a: usize) -> bool
+    requires { ⌜ modify .count ≤ 64 ⌝ }
+    ensures { λ r. ⌜ r ≡ rangesName modify a ⌝ }
+{
+    let count = modify.count;
+    let mut i = 0;
+    while i < count {
+        if range_names(modify.rows[i], a) {
+            return true;
+        }
+        i += 1;
+    }
+    false
+}
+
+// Number 7: does some row of the five tables name a?
+pub fn is_named(tables: Tables, modify: Ranges, a: usize) -> bool
+    requires { ⌜ (tables .assign .count ≤ 64) × (tables .revoke .count ≤ 64) × (tables .assignp .count ≤ 64) × (tables .revokep .count ≤ 64) × (modify .count ≤ 64) ⌝ }
+    ensures { λ r. ⌜ r ≡ named tables modify a ⌝ }
+{
+    if table_names(tables.assign, a) {
+        return true;
+    }
+    if table_names(tables.revoke, a) {
+        return true;
+    }
+    if table_names(tables.assignp, a) {
+        return true;
+    }
+    if table_names(tables.revokep, a) {
+        return true;
+    }
+    ranges_name(modify, a)
+}
+
+// Number 8: is some member explicitly in a?
+pub fn some_in(members: Members, a: usize) -> bool
+    requires { ⌜ members .count ≤ 256 ⌝ }
+    ensures { λ r. ⌜ r ≡ someIn members a ⌝ }
+{
+    let count = members.count;
+    let role = a as u64;
+    let mut u = 0;
+    while u < count {
+        if contains(members.roles[u], role) {
+            return true;
+        }
+        u += 1;
+    }
+    false
+}
+
+pub fn is_occupied(p: Policy, a: usize) -> bool
+    requires { ⌜ Sizes p ⌝ }
+    ensures { λ r. ⌜ r ≡ (someIn (p .people .users) a or someIn (p .permissions) a) ⌝ }
+{
+    let people = p.people;
+    if some_in(people.users, a) {
+        return true;
+    }
+    some_in(p.permissions, a)
+}
+
+// Kind 5: create a role, parent a, child b.
+pub fn create_role(p: Policy, o: u64, a: u64, b: u64) -> Answer
+    requires { ⌜ Sizes p ⌝ }
+    ensures { λ r. ⌜ r ≡ createRole p o a b ⌝ }
+{
+    let site = site_of(p, o);
+    let outcome = create_outcome(site, a, b);
+    if outcome != 0 {
+        return refused(p, outcome);
+    }
+    let order = site.roles;
+    let n = lowest_free(order.used);
+    let after = create(order, n, a as usize, b as usize);
+    accepted(with_roles(p, after), n as u64)
+}
+
+// Kind 6: delete role a.
+pub fn delete_role(p: Policy, o: u64, a: u64, b: u64) -> Answer
+    requires { ⌜ Sizes p ⌝ }
+    ensures { λ r. ⌜ r ≡ deleteRole p o a b ⌝ }
+{
+    let site = site_of(p, o);
+    let role = a as usize;
+    let names = is_named(p.tables, p.modify, role);
+    let members = is_occupied(p, role);
+    let outcome = delete_outcome(site, names, members, a, b);
+    if outcome != 0 {
+        return refused(p, outcome);
+    }
+    let after = remove(site.roles, role);
+    accepted(with_roles(p, after), 0)
+}
+
+// Kind 7: insert an edge, a senior to b.
+pub fn insert_edge(p: Policy, o: u64, a: u64, b: u64) -> Answer
+    requires { ⌜ Sizes p ⌝ }
+    ensures { λ r. ⌜ r ≡ insertEdge p o a b ⌝ }
+{
+    let site = site_of(p, o);
+    let outcome = insert_outcome(site, a, b);
+    if outcome != 0 {
+        return refused(p, outcome);
+    }
+    let after = insert(site.roles, a as usize, b as usize);
+    accepted(with_roles(p, after), 0)
+}
+
+// Kind 8: delete edge (a, b).
+pub fn delete_edge(p: Policy, o: u64, a: u64, b: u64) -> Answer
+    requires { ⌜ Sizes p ⌝ }
+    ensures { λ r. ⌜ r ≡ deleteEdge p o a b ⌝ }
+{
+    let site = site_of(p, o);
+    let outcome = cut_outcome(site, a, b);
+    if outcome != 0 {
+        return refused(p, outcome);
+    }
+    let after = cut_edge(site.roles, a as usize, b as usize);
+    accepted(with_roles(p, after), 0)
+}

@@ -1,0 +1,71 @@
+use Prim.Native.Nat.{_-_}
+use native.Mathlib.Omega.{arith}
+use Rattle.number.specs.Number.{numBytes}
+use Rattle.layout.proofs.Counts.{Counting, count-none, count-step, count-room, count-over}
+use Rattle.layout.proofs.Lengths.{permissions-most}
+use lib.ListN.{getD}
+use Rattle.layout.specs.Layout.{permissionsBytes}
+use borrow.Author.Needs.{needs}
+use Rattle.layout.proofs.permissions_length.Statement.{statement}
+use Rattle.layout.proofs.permissions_length.Tie as tie
+
+abbrev Inv-loop : tie.InvT-loop
+Inv-loop m n₀ i₀ n i = Counting (λ j. numBytes (getD (m .roles) j 0)) (m .count) n₀ i n
+
+abbrev μ-loop : tie.MeasureT-loop
+μ-loop m n₀ i₀ n i = m .count - i
+
+number-len-requires : tie.Need-number-len-requires Inv-loop μ-loop
+number-len-requires c κs = search needs
+
+loop-holds : tie.Need-loop-holds Inv-loop μ-loop
+loop-holds c = count-none
+
+mul-number-len : tie.Need-mul-number-len Inv-loop μ-loop
+mul-number-len c = search needs
+
+element-copy-out-number-len : tie.Need-element-copy-out-number-len Inv-loop μ-loop
+element-copy-out-number-len c = search needs
+
+number-len-requires-2 : tie.Need-number-len-requires-2 Inv-loop μ-loop
+number-len-requires-2 c κs = search needs
+
+add-n : tie.Need-add-n Inv-loop μ-loop
+unfolding permissionsBytes
+add-n c =
+    let m = c .before .before .before .before .before .args .t1 in
+    omega (
+      arith,
+      count-room (c .before .before .before .loop .inv) (numBytes (m .count)) (c .before .before .loop-test .taken)
+          (c .before .before .before .before .number-len .ensures) (c .number-len2 .ensures) (permissions-most m (c .before .before .before .before .before .pre)),
+    )
+
+add-i : tie.Need-add-i Inv-loop μ-loop
+add-i c = search needs
+
+loop-less : tie.Need-loop-less Inv-loop μ-loop
+loop-less c = search needs
+
+loop-again : tie.Need-loop-again Inv-loop μ-loop
+loop-again c = count-step (c .before .before .before .loop .inv) (c .before .before .loop-test .taken) (c .number-len2 .ensures)
+
+returns : tie.Need-returns Inv-loop μ-loop
+unfolding permissionsBytes
+returns c = count-over (c .before .loop .inv) (numBytes (c .before .before .before .args .t1 .count)) (c .loop-test .left) (c .before .before .number-len .ensures)
+
+pub permissions-length-spec : {M : Type 1} → statement M
+permissions-length-spec =
+    tie.close
+    (tie.spec
+    Inv-loop
+    μ-loop
+    number-len-requires
+    loop-holds
+    mul-number-len
+    element-copy-out-number-len
+    number-len-requires-2
+    add-n
+    add-i
+    loop-less
+    loop-again
+    returns)

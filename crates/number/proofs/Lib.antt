@@ -1,0 +1,12 @@
+pub mod Parts
+pub mod Stores
+pub mod Values
+pub mod Numbers
+pub mod Reader
+pub mod Bytes
+pub mod RoundTrip
+pub mod Tested
+pub mod Runs
+pub mod Puts
+pub mod RunTrip
+pub mod Vectors

@@ -1,0 +1,3 @@
+pub mod Order
+pub mod Effects
+pub mod Rows

@@ -1,0 +1,21 @@
+-- What the two loops of the effects leave, by pairs.
+use mathlib.Core.Path.{_≡_}
+use mathlib.Core.Bool.{Bool}
+use mathlib.Core.List.{List}
+use Prim.Native.Nat.{ℕ, _<_}
+use lib.Dec.{eqb}
+use Rattle.sets.specs.Tests.{_and_, _or_, neg}
+use Rattle.sets.specs.Sets.{has}
+use Rattle.order.specs.Order.{Relation, senior, atLeast}
+
+-- the pairs of the 64 rows are exactly those of f
+pub record Pairs (juniors : List ℕ) (f : Relation) : Type 0 where
+  pub pair : (x y : ℕ) → x < 64 → senior juniors x y ≡ f x y
+
+-- a and each senior of a has gained the members of a set
+abbrev pub Spread : List ℕ → ℕ → ℕ → List ℕ → Type 0
+Spread juniors a gained r = Pairs r (λ x y. senior juniors x y or (atLeast (senior juniors) x a and has gained y))
+
+-- a has gone from each set of juniors
+abbrev pub Dropped : List ℕ → ℕ → List ℕ → Type 0
+Dropped juniors a r = Pairs r (λ x y. senior juniors x y and neg (eqb y a))

@@ -1,0 +1,4 @@
+pub mod Build
+pub mod Outcome
+pub mod Question
+pub mod Good

@@ -1,0 +1,72 @@
+-- Ranges: what the one routine says of a strict range, and encapsulation by whole sets.
+-- Assumes nothing.
+use mathlib.Core.Path.{_≡_, refl, sym, ap, ap₂, _∙_}
+use mathlib.Core.Bool.{Bool, true, false}
+use mathlib.Core.List.{List}
+use Prim.Native.Nat.{ℕ, _≤_, _<_}
+use lib.Dec.{eqb}
+use lib.ListN.{length, getD}
+use Rattle.sets.specs.Tests.{_and_, _or_, neg, _implies_, _iff_}
+use Rattle.sets.specs.Sets.{has, all, any, Exactly, agreeing}
+use Rattle.sets.proofs.Tests.{and-fails-l, and-fails-r, and-given, or-given, implies-and, eqb-sym}
+use Rattle.sets.proofs.Digits.{has-empty}
+use Rattle.sets.proofs.Quantifiers.{all-same, all-and, any-same}
+use Rattle.order.specs.Order.{Relation, senior, atLeast}
+use Rattle.order.proofs.Lists.{senior-past}
+use Rattle.ranges.specs.Ranges.{inside, inRange, encapsulated, parted, overlapInPart}
+
+-- with brackets 0 neither end is included
+pub inside-is : (f : Relation) (low high r : ℕ) → inRange f low high 0 r ≡ inside f low high r
+unfolding inRange inside
+inside-is f low high r =
+    ap₂ _and_ (or-given _ _ (and-fails-r _ _ (has-empty 0))) (or-given _ _ (and-fails-r _ _ (has-empty 1)))
+
+pub inside-past : (js : List ℕ) (low high r : ℕ) → length js ≤ r → inside (senior js) low high r ≡ false
+unfolding inside
+inside-past js low high r l = and-fails-l _ _ (senior-past js low r l)
+
+-- the two tests of `is_parted`, each on whole sets
+pub parted-split : (js : List ℕ) (r outside above below over : ℕ) → Exactly over (λ a. senior js a r)
+    → parted (senior js) r (has outside) (has above) (has below)
+    ≡ (agreeing 64 over above outside and agreeing 64 (getD js r 0) below outside)
+unfolding parted agreeing senior
+parted-split js r outside above below over e =
+    all-same 64 _ _ (λ s l. implies-and (has outside s) _ _
+    ∙ ap (λ (b : Bool). (has outside s implies (b iff has above s)) and (has outside s implies (has (getD js r 0) s iff has below s))) (sym (e s)))
+    ∙ all-and 64 _ _
+
+-- the sets that `is_encapsulated` makes
+pub record Sides (used : ℕ) (f : Relation) (low high range outside above below : ℕ) : Type 0 where
+  pub range-is : Exactly range (inside f low high)
+  pub outside-is : Exactly outside (λ s. has used s and neg (inside f low high s))
+  pub above-is : (s : ℕ) → s < 64 → has above s ≡ atLeast f s high
+  pub below-is : (s : ℕ) → s < 64 → has below s ≡ atLeast f low s
+
+pub encapsulated-is : (used : ℕ) (f : Relation) (low high range outside above below : ℕ) → Sides used f low high range outside above below
+    → all 64 (λ r. has range r implies parted f r (has outside) (has above) (has below)) ≡ encapsulated used f low high
+unfolding encapsulated parted
+encapsulated-is used f low high range outside above below h =
+    all-same 64 _ _ (λ r l. ap₂ _implies_ (h .range-is r)
+    (all-same 64 _ _ (λ s m. ap₂ _implies_ (h .outside-is s) (ap₂ (λ (b c : Bool). (f s r iff b) and (f r s iff c)) (h .above-is s m) (h .below-is s m)))))
+
+-- overlapping in part goes by who is in the two ranges
+pub overlap-same : (p p′ q q′ : ℕ → Bool) → ((r : ℕ) → p r ≡ p′ r) → ((r : ℕ) → q r ≡ q′ r) → overlapInPart p q ≡ overlapInPart p′ q′
+unfolding overlapInPart
+overlap-same p p′ q q′ e d =
+    ap₂ _and_ (any-same 64 _ _ (λ r l. ap₂ _and_ (e r) (d r)))
+    (ap₂ _and_ (any-same 64 _ _ (λ r l. ap₂ (λ (a b : Bool). a and neg b) (e r) (d r)))
+    (any-same 64 _ _ (λ r l. ap₂ (λ (a b : Bool). a and neg b) (d r) (e r))))
+
+-- the two ends of a range, as the routine tests them: a and z are what it finds, b and d whether an end is included
+module _ (f : Relation) (low high brackets r : ℕ) (a b : Bool) (e : a ≡ ((eqb r low and b) or f r low)) (i : b ≡ has brackets 0) where
+  low-of : a ≡ ((eqb r low and has brackets 0) or f r low)
+  low-of = rw (← i) e
+
+  pub out-of-range : a ≡ false → false ≡ inRange f low high brackets r
+  unfolding inRange
+  out-of-range n = sym (and-fails-l _ _ (sym low-of ∙ n))
+
+  pub rest-of-range : a ≡ true → (z d : Bool) → z ≡ ((eqb high r and d) or f high r) → d ≡ has brackets 1 → z ≡ inRange f low high brackets r
+  unfolding inRange
+  rest-of-range y z d q j =
+      q ∙ ap₂ (λ (s t : Bool). (s and t) or f high r) (eqb-sym high r) j ∙ sym (and-given _ _ (sym low-of ∙ y))

@@ -1,0 +1,232 @@
+// Authority ranges and ranges with brackets, over an order of 64 roles, and the checks of all can-modify rows.
+ghost use mathlib.Core.Path.{_≡_};
+ghost use mathlib.Core.Bool.{Bool};
+ghost use Prim.Native.Nat.{ℕ, _<_, _≤_};
+ghost use lib.Dec.{eqb};
+ghost use lib.ListN.{length};
+ghost use Rattle.sets.specs.Tests.{_and_, _or_, _implies_};
+ghost use Rattle.sets.specs.Sets.{has, all, Exactly};
+ghost use Rattle.order.specs.Order.{senior};
+ghost use Rattle.ranges.specs.Ranges.{inside, inRange, encapsulated, parted, overlapInPart};
+ghost use Rattle.ranges.specs.Rows.{within, rowFails, firstFailing, overlapFrom, firstOverlap, unsound};
+use order::Order;
+use order::is_senior;
+use order::juniors_of;
+use order::seniors;
+use sets::agree;
+use sets::both;
+use sets::has;
+use sets::minus;
+use sets::with;
+
+pub struct RoleId(pub u8);
+
+pub struct AdminId(pub u8);
+
+pub struct ModifyRow {
+    pub admin: AdminId,
+    pub low: RoleId,
+    pub high: RoleId,
+}
+
+// Is a the same as b, where that counts, or senior to b?
+fn at_or_over(juniors: &[u64], a: usize, b: usize, same: bool) -> bool
+    ensures { λ r. ⌜ r ≡ ((eqb a b and same) or senior (now (juniors .entry)) a b) ⌝ }
+{
+    if a != b {
+        return is_senior(juniors, a, b);
+    }
+    if same {
+        return true;
+    }
+    is_senior(juniors, a, b)
+}
+
+// The one routine that says whether a role is in a range; a strict range has brackets 0.
+pub fn in_range(juniors: &[u64], low: RoleId, high: RoleId, brackets: u8, r: usize) -> bool
+    ensures { λ b. ⌜ b ≡ inRange (senior (now (juniors .entry))) (low .0) (high .0) brackets r ⌝ }
+{
+    let ends = brackets as u64;
+    let bottom = low.0 as usize;
+    let top = high.0 as usize;
+    if !at_or_over(juniors, r, bottom, has(ends, 0)) {
+        return false;
+    }
+    at_or_over(juniors, top, r, has(ends, 1))
+}
+
+// The roles strictly between low and high.
+pub fn range_set(juniors: &[u64], low: RoleId, high: RoleId) -> u64
+    requires { ⌜ length (now juniors) ≡ 64 ⌝ }
+    ensures { λ s. ⌜ Exactly s (inside (senior (now (juniors .entry))) (low .0) (high .0)) ⌝ }
+{
+    let mut set: u64 = 0;
+    let mut r = 0;
+    while r < 64 {
+        if in_range(juniors, low, high, 0, r) {
+            set = with(set, r);
+        }
+        r += 1;
+    }
+    set
+}
+
+// Of the roles outside, has r above it exactly those of above, and below it exactly those of below?
+fn is_parted(juniors: &[u64], r: usize, outside: u64, above: u64, below: u64) -> bool
+    requires { ⌜ (length (now juniors) ≡ 64) × (r < 64) ⌝ }
+    ensures { λ b. ⌜ b ≡ parted (senior (now (juniors .entry))) r (has outside) (has above) (has below) ⌝ }
+{
+    if !agree(seniors(juniors, r), above, outside) {
+        return false;
+    }
+    agree(juniors[r], below, outside)
+}
+
+// The same of each role of a range.
+fn each_parted(juniors: &[u64], range: u64, outside: u64, above: u64, below: u64) -> bool
+    requires { ⌜ length (now juniors) ≡ 64 ⌝ }
+    ensures { λ b. ⌜ b ≡ all 64 (λ r. has range r implies parted (senior (now (juniors .entry))) r (has outside) (has above) (has below)) ⌝ }
+{
+    let mut r = 0;
+    while r < 64 {
+        if has(range, r) {
+            if !is_parted(juniors, r, outside, above, below) {
+                return false;
+            }
+        }
+        r += 1;
+    }
+    true
+}
+
+// The set with one end more; an end that no role has adds nothing.
+fn with_end(set: u64, end: usize) -> u64
+    ensures { λ r. ⌜ ((m : ℕ) → m < 64 → has r m ≡ (eqb m end or has set m)) ⌝ }
+{
+    if 64 <= end {
+        return set;
+    }
+    with(set, end)
+}
+
+// Is the range encapsulated among the roles in use?
+pub fn is_encapsulated(used: u64, juniors: &[u64], low: RoleId, high: RoleId) -> bool
+    requires { ⌜ length (now juniors) ≡ 64 ⌝ }
+    ensures { λ b. ⌜ b ≡ encapsulated used (senior (now (juniors .entry))) (low .0) (high .0) ⌝ }
+{
+    let bottom = low.0 as usize;
+    let top = high.0 as usize;
+    let range = range_set(juniors, low, high);
+    let outside = minus(used, range);
+    let above = with_end(seniors(juniors, top), top);
+    let below = with_end(juniors_of(juniors, bottom), bottom);
+    each_parted(juniors, range, outside, above, below)
+}
+
+// Does a row fail the test that is looked for: 24, 25, or else either of the two?
+pub fn row_fails(row: ModifyRow, look: u8, used: u64, juniors: &[u64]) -> bool
+    requires { ⌜ length (now juniors) ≡ 64 ⌝ }
+    ensures { λ b. ⌜ b ≡ rowFails look used (senior (now (juniors .entry))) row ⌝ }
+{
+    let bottom = row.low.0 as usize;
+    let top = row.high.0 as usize;
+    let junior = is_senior(juniors, top, bottom);
+    if look == 24 {
+        return !junior;
+    }
+    let capsule = is_encapsulated(used, juniors, row.low, row.high);
+    if look == 25 {
+        return !capsule;
+    }
+    if !junior {
+        return true;
+    }
+    !capsule
+}
+
+// Does the range of a row overlap another in part?
+pub fn overlaps(range: u64, row: ModifyRow, juniors: &[u64]) -> bool
+    requires { ⌜ length (now juniors) ≡ 64 ⌝ }
+    ensures { λ b. ⌜ b ≡ overlapInPart (has range) (within (senior (now (juniors .entry))) row) ⌝ }
+{
+    let other = range_set(juniors, row.low, row.high);
+    if both(range, other) == 0 {
+        return false;
+    }
+    if minus(range, other) == 0 {
+        return false;
+    }
+    minus(other, range) != 0
+}
+
+// The first of the rows that fails the test that is looked for; their count where none does.
+pub fn first_failing(
+    rows: [ModifyRow; 64],
+    count: usize,
+    look: u8,
+    used: u64,
+    juniors: &[u64],
+) -> usize
+    requires { ⌜ (count ≤ 64) × (length (now juniors) ≡ 64) ⌝ }
+    ensures { λ r. ⌜ r ≡ firstFailing look used (senior (now (juniors .entry))) count rows ⌝ }
+{
+    let mut i = 0;
+    while i < count {
+        if row_fails(rows[i], look, used, juniors) {
+            return i;
+        }
+        i += 1;
+    }
+    count
+}
+
+// The first row from a place on that overlaps a range in part; the rows' count where none does.
+pub fn overlap_from(
+    rows: [ModifyRow; 64],
+    count: usize,
+    from: usize,
+    range: u64,
+    juniors: &[u64],
+) -> usize
+    requires { ⌜ (count ≤ 64) × (length (now juniors) ≡ 64) ⌝ }
+    ensures { λ r. ⌜ r ≡ overlapFrom (senior (now (juniors .entry))) count rows from (has range) ⌝ }
+{
+    let mut j = from;
+    while j < count {
+        if overlaps(range, rows[j], juniors) {
+            return j;
+        }
+        j += 1;
+    }
+    count
+}
+
+// The first row that overlaps a later one in part; the rows' count where none does.
+pub fn first_overlap(rows: [ModifyRow; 64], count: usize, juniors: &[u64]) -> usize
+    requires { ⌜ (count ≤ 64) × (length (now juniors) ≡ 64) ⌝ }
+    ensures { λ r. ⌜ r ≡ firstOverlap (senior (now (juniors .entry))) count rows ⌝ }
+{
+    let mut i = 0;
+    while i < count {
+        let row = rows[i];
+        let range = range_set(juniors, row.low, row.high);
+        if overlap_from(rows, count, i + 1, range, juniors) < count {
+            return i;
+        }
+        i += 1;
+    }
+    count
+}
+
+// Is some range unsound in an order: low not junior to high, not encapsulated, or two overlapping in part?
+pub fn is_unsound(rows: [ModifyRow; 64], count: usize, order: Order) -> bool
+    requires { ⌜ count ≤ 64 ⌝ }
+    ensures { λ r. ⌜ r ≡ unsound (order .used) (senior (order .juniors)) count rows ⌝ }
+{
+    let used = order.used;
+    let juniors = order.juniors;
+    if first_failing(rows, count, 9, used, &juniors) < count {
+        return true;
+    }
+    first_overlap(rows, count, &juniors) < count
+}

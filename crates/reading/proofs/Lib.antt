@@ -1,0 +1,4 @@
+pub mod Laws
+pub mod Right
+pub mod Bounds
+pub mod Theorems

@@ -1,0 +1,91 @@
+use mathlib.Core.Path.{_∙_}
+use borrow.Author.Tests.{ne-eqb}
+use borrow.Author.Needs.{needs}
+use Rattle.requests.proofs.decide.Statement.{statement}
+use Rattle.requests.proofs.decide.Tie as tie
+
+assign-user-requires : tie.Need-assign-user-requires
+assign-user-requires c κs = search needs
+
+revoke-user-requires : tie.Need-revoke-user-requires
+revoke-user-requires c κs = search needs
+
+assign-permission-requires : tie.Need-assign-permission-requires
+assign-permission-requires c κs = search needs
+
+revoke-permission-requires : tie.Need-revoke-permission-requires
+revoke-permission-requires c κs = search needs
+
+create-role-requires : tie.Need-create-role-requires
+create-role-requires c κs = search needs
+
+delete-role-requires : tie.Need-delete-role-requires
+delete-role-requires c κs = search needs
+
+insert-edge-requires : tie.Need-insert-edge-requires
+insert-edge-requires c κs = search needs
+
+delete-edge-requires : tie.Need-delete-edge-requires
+delete-edge-requires c κs = search needs
+
+refused-requires : tie.Need-refused-requires
+refused-requires c κs = search needs
+
+returns : tie.Need-returns
+unfolding Rattle.requests.specs.Requests.decide
+returns c = c .assign-user .ensures ∙ rw (c .before .match .keys1)
+
+returns-2 : tie.Need-returns-2
+unfolding Rattle.requests.specs.Requests.decide
+returns-2 c = c .revoke-user .ensures ∙ rw (c .before .match .keys2)
+
+returns-3 : tie.Need-returns-3
+unfolding Rattle.requests.specs.Requests.decide
+returns-3 c = c .assign-permission .ensures ∙ rw (c .before .match .keys3)
+
+returns-4 : tie.Need-returns-4
+unfolding Rattle.requests.specs.Requests.decide
+returns-4 c = c .revoke-permission .ensures ∙ rw (c .before .match .keys4)
+
+returns-5 : tie.Need-returns-5
+unfolding Rattle.requests.specs.Requests.decide
+returns-5 c = c .create-role .ensures ∙ rw (c .before .match .keys5)
+
+returns-6 : tie.Need-returns-6
+unfolding Rattle.requests.specs.Requests.decide
+returns-6 c = c .delete-role .ensures ∙ rw (c .before .match .keys6)
+
+returns-7 : tie.Need-returns-7
+unfolding Rattle.requests.specs.Requests.decide
+returns-7 c = c .insert-edge .ensures ∙ rw (c .before .match .keys7)
+
+returns-8 : tie.Need-returns-8
+unfolding Rattle.requests.specs.Requests.decide
+returns-8 c = c .delete-edge .ensures ∙ rw (c .before .match .keys8)
+
+returns-9 : tie.Need-returns-9
+unfolding Rattle.requests.specs.Requests.decide
+returns-9 c = c .refused .ensures ∙ rw (ne-eqb _ 1 (c .before .match .rest .0 .0 .0 .0 .0 .0 .0 .1), ne-eqb _ 2 (c .before .match .rest .0 .0 .0 .0 .0 .0 .1), ne-eqb _ 3 (c .before .match .rest .0 .0 .0 .0 .0 .1), ne-eqb _ 4 (c .before .match .rest .0 .0 .0 .0 .1), ne-eqb _ 5 (c .before .match .rest .0 .0 .0 .1), ne-eqb _ 6 (c .before .match .rest .0 .0 .1), ne-eqb _ 7 (c .before .match .rest .0 .1), ne-eqb _ 8 (c .before .match .rest .1))
+
+pub decide-spec : {M : Type 1} → statement M
+decide-spec =
+    tie.close
+    (tie.spec
+    assign-user-requires
+    revoke-user-requires
+    assign-permission-requires
+    revoke-permission-requires
+    create-role-requires
+    delete-role-requires
+    insert-edge-requires
+    delete-edge-requires
+    refused-requires
+    returns
+    returns-2
+    returns-3
+    returns-4
+    returns-5
+    returns-6
+    returns-7
+    returns-8
+    returns-9)

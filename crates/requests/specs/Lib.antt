@@ -1,0 +1,5 @@
+pub mod Requests
+pub mod Numbers
+pub mod Reached
+pub mod Examples
+pub mod Cases

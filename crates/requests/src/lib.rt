@@ -1,0 +1,56 @@
+// One function over all kinds of request, and the table of the numbers that each kind may give.
+ghost use mathlib.Core.Path.{_≡_};
+ghost use Rattle.policy.specs.Good.{Sizes};
+ghost use Rattle.requests.specs.Requests.{decide};
+ghost use Rattle.requests.specs.Numbers.{mayGive};
+use hierarchy::create_role;
+use hierarchy::delete_edge;
+use hierarchy::delete_role;
+use hierarchy::insert_edge;
+use members::assign_permission;
+use members::assign_user;
+use members::revoke_permission;
+use members::revoke_user;
+use policy::Answer;
+use policy::Policy;
+use policy::refused;
+use sets::contains;
+
+pub struct Request {
+    pub officer: u64,
+    pub kind: u64,
+    pub a: u64,
+    pub b: u64,
+}
+
+// By kind the set of the numbers that a request may give, acceptance with them; the first row is for a kind that is none of the eight.
+const NUMBERS: [u64; 9] = [2, 61, 45, 61, 45, 621, 399, 557, 557];
+
+// May a request of the kind give the outcome?
+pub fn may_give(kind: u64, outcome: u64) -> bool
+    ensures { λ r. ⌜ r ≡ mayGive kind outcome ⌝ }
+{
+    if 9 <= kind {
+        return contains(NUMBERS[0], outcome);
+    }
+    contains(NUMBERS[kind as usize], outcome)
+}
+
+// The answer to any request, whatever its four numbers.
+pub fn decide(p: Policy, q: Request) -> Answer
+    requires { ⌜ Sizes p ⌝ }
+    ensures { λ r. ⌜ r ≡ decide p q ⌝ }
+{
+    let kind = q.kind;
+    match kind {
+        1 => assign_user(p, q.officer, q.a, q.b),
+        2 => revoke_user(p, q.officer, q.a, q.b),
+        3 => assign_permission(p, q.officer, q.a, q.b),
+        4 => revoke_permission(p, q.officer, q.a, q.b),
+        5 => create_role(p, q.officer, q.a, q.b),
+        6 => delete_role(p, q.officer, q.a, q.b),
+        7 => insert_edge(p, q.officer, q.a, q.b),
+        8 => delete_edge(p, q.officer, q.a, q.b),
+        _ => refused(p, 1),
+    }
+}

@@ -1,0 +1,4 @@
+pub mod Dominance
+pub mod Removal
+pub mod Hierarchy
+pub mod Goodness

@@ -1,0 +1,5 @@
+pub mod Answers
+pub mod Laws
+pub mod Bounds
+pub mod Filled
+pub mod Right

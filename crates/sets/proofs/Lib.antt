@@ -1,0 +1,5 @@
+pub mod Tests
+pub mod Digits
+pub mod Quantifiers
+pub mod Builders
+pub mod Loops

@@ -1,0 +1,10 @@
+pub mod Fill
+pub mod ReadSections
+pub mod ReadRows
+pub mod ReadWritten
+pub mod Exact
+pub mod WrittenSections
+pub mod WrittenRows
+pub mod WrittenRead
+pub mod Trips
+pub mod Places

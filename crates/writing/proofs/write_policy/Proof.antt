@@ -1,0 +1,81 @@
+use native.Mathlib.Omega.{arith}
+use Rattle.layout.specs.Layout.{policyBytes}
+use Rattle.layout.proofs.Lengths.{table-sizes}
+use Rattle.writers.proofs.Chains.{wrote-long, wrote-inside, wrote-rest, room-first, room-rest, rest-inside}
+use Rattle.writing.proofs.Outputs.{output-short, output-long, room-for}
+use borrow.Author.Needs.{needs}
+use Rattle.writing.proofs.write_policy.Statement.{statement}
+use Rattle.writing.proofs.write_policy.Tie as tie
+
+file-length-requires : tie.Need-file-length-requires
+file-length-requires c κs = search needs
+
+returns : tie.Need-returns
+returns c = output-short (c .before .before .before .args .p) _ (c .before .file-length .ensures) (c .if1 .taken)
+
+write-sections-requires : tie.Need-write-sections-requires
+unfolding policyBytes
+write-sections-requires c κs =
+    let start = c .before .before .before .before .before in
+    let room = room-for (start .args .p) (start .args .out .now) (c .before .before .before .file-length .ensures) (c .before .before .if1 .left) in
+    (start .pre .users, (start .pre .permissions, room-first _ _ room))
+
+sub-write-tables : tie.Need-sub-write-tables
+unfolding policyBytes
+sub-write-tables c =
+    let start = c .before .before .before .before .before .before .before .before in
+    let room = room-for (start .args .p) (start .args .out .now) (c .before .before .before .before .before .before .file-length .ensures) (c .before .before .before .before .before .if1 .left) in
+    let front = c .before .before .write-sections .ensures in
+    rest-inside front _ room
+
+part-write-tables-start : tie.Need-part-write-tables-start
+unfolding policyBytes
+part-write-tables-start c =
+    let start = c .before .before .before .before .before .before .before .before in
+    let room = room-for (start .args .p) (start .args .out .now) (c .before .before .before .before .before .before .file-length .ensures) (c .before .before .before .before .before .if1 .left) in
+    let front = c .before .before .write-sections .ensures in
+    rest-inside front _ room
+
+part-write-tables-end : tie.Need-part-write-tables-end
+part-write-tables-end c = search needs
+
+write-tables-requires : tie.Need-write-tables-requires
+unfolding policyBytes
+write-tables-requires c κs =
+    let start = c .before .before .before .before .before .before .before .before .before in
+    let room = room-for (start .args .p) (start .args .out .now) (c .before .before .before .before .before .before .before .file-length .ensures) (c .before .before .before .before .before .before .if1 .left) in
+    let front = c .before .before .before .write-sections .ensures in
+    (table-sizes _ (start .pre), room-rest front room)
+
+add-past : tie.Need-add-past
+unfolding policyBytes
+add-past c =
+    let start = c .before .before .before .before .before .before .before .before .before .before .before .before in
+    let room = room-for (start .args .p) (start .args .out .now) (c .before .before .before .before .before .before .before .before .before .before .file-length .ensures) (c .before .before .before .before .before .before .before .before .before .if1 .left) in
+    let front = c .before .before .before .before .before .before .write-sections .ensures in
+    omega (arith, wrote-inside (wrote-rest front (c .before .before .write-tables .ensures)) room, start .good)
+
+same-length : tie.Need-same-length
+same-length c = wrote-long (wrote-rest (c .before .before .before .before .before .before .write-sections .ensures) (c .before .before .write-tables .ensures))
+
+returns-2 : tie.Need-returns-2
+unfolding policyBytes
+returns-2 c =
+    let start = c .before .before .before .before .before .before .before .before .before .before .before .before in
+    let front = c .before .before .before .before .before .before .write-sections .ensures in
+    output-long (start .args .p) _ (c .before .before .before .before .before .before .before .before .before .before .file-length .ensures) (c .before .before .before .before .before .before .before .before .before .if1 .left) (wrote-rest front (c .before .before .write-tables .ensures))
+
+pub write-policy-spec : {M : Type 1} → statement M
+write-policy-spec =
+    tie.close
+    (tie.spec
+    file-length-requires
+    returns
+    write-sections-requires
+    sub-write-tables
+    part-write-tables-start
+    part-write-tables-end
+    write-tables-requires
+    add-past
+    same-length
+    returns-2)
