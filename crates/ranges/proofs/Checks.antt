@@ -8,16 +8,18 @@ use Prim.Native.Nat.{ℕ, suc, _+_, _≤_, _<_}
 use native.Mathlib.Numerals.{add-one}
 use native.Mathlib.Omega.{arith}
 use lib.Dec.{eqb, leb, ltb}
+use lib.ListN.{length, take}
+use lib.Seq.{getD-take}
 use borrow.Author.Tests.{lt-ltb, le-ltb, lt-leb, eq-eqb, ne-eqb}
 use Rattle.sets.specs.Tests.{_and_, _or_, neg}
 use Rattle.sets.specs.Sets.{has, any, least}
 use Rattle.sets.proofs.Tests.{same-test, not-so, clash, and-i, and-l, and-r, and-fails-l, and-comm, or-l, or-given, or-assoc, neg-e, not-neg}
 use Rattle.sets.proofs.Loops.{None}
-use Rattle.sets.proofs.Quantifiers.{any-of, any-at, any-fails, any-same, any-or, least-any}
+use Rattle.sets.proofs.Quantifiers.{any-of, any-at, any-fails, any-same, any-or, least-same, least-any}
 use Rattle.order.specs.Order.{Relation}
 use Rattle.ranges.specs.declared.ModifyRow.{ModifyRow}
 use Rattle.ranges.specs.Ranges.{encapsulated, overlapInPart}
-use Rattle.ranges.specs.Rows.{rowAt, within, lowNotJunior, notEncapsulated, rowFails, overlap, overlapFrom, firstOverlap, firstFailing, unsound}
+use Rattle.ranges.specs.Rows.{noRow, rowAt, within, lowNotJunior, notEncapsulated, rowFails, overlap, overlapFrom, firstOverlap, firstFailing, unsound}
 use Rattle.ranges.proofs.Laws.{overlap-same}
 
 -- overlapping in part is the same either way round, and no range overlaps itself in part
@@ -48,6 +50,19 @@ unfolding overlapFrom overlap
 later f count rows i range e =
     sym (least-any count _)
     ∙ any-same count _ _ (λ j l. ap₂ _and_ (ap (λ (n : ℕ). leb n j) (add-one i)) (overlap-same _ _ _ _ e (λ r. refl)))
+
+-- what is first of the rows lent is first of the first n
+module _ (n : ℕ) (rows : List ModifyRow) (count : length (take n rows) ≡ n) where
+  lent : (g : ℕ → ModifyRow → Bool) → least (length (take n rows)) (λ k. g k (rowAt (take n rows) k)) ≡ least n (λ k. g k (rowAt rows k))
+  lent g = ap (λ (c : ℕ). least c (λ k. g k (rowAt (take n rows) k))) count ∙ least-same n _ _ (λ k l. ap (g k) (getD-take n rows k noRow l))
+
+  pub failing-lent : (look used : ℕ) (f : Relation) → firstFailing look used f (length (take n rows)) (take n rows) ≡ firstFailing look used f n rows
+  unfolding firstFailing
+  failing-lent look used f = lent (λ k row. rowFails look used f row)
+
+  pub overlap-lent : (f : Relation) (from : ℕ) (range : ℕ → Bool) → overlapFrom f (length (take n rows)) (take n rows) from range ≡ overlapFrom f n rows from range
+  unfolding overlapFrom
+  overlap-lent f from range = lent (λ k row. leb from k and overlapInPart range (within f row))
 
 -- of two rows that overlap in part one is the later
 module _ (f : Relation) (count : ℕ) (rows : List ModifyRow) where

@@ -5,6 +5,7 @@ use mathlib.Core.Bool.{Bool, true, false}
 use mathlib.Core.List.{List}
 use Prim.Native.Nat.{ℕ, _≤_, _<_}
 use lib.Dec.{eqb}
+use borrow.Author.Tests.{lt-ltb, le-ltb}
 use lib.ListN.{length, getD}
 use Rattle.sets.specs.Tests.{_and_, _or_, neg, _implies_, _iff_}
 use Rattle.sets.specs.Sets.{has, all, any, Exactly, agreeing}
@@ -14,6 +15,7 @@ use Rattle.sets.proofs.Quantifiers.{all-same, all-and, any-same}
 use Rattle.order.specs.Order.{Relation, senior, atLeast}
 use Rattle.order.proofs.Lists.{senior-past}
 use Rattle.ranges.specs.Ranges.{inside, inRange, encapsulated, parted, overlapInPart}
+use Rattle.ranges.specs.Rows.{upTo}
 
 -- with brackets 0 neither end is included
 pub inside-is : (f : Relation) (low high r : ℕ) → inRange f low high 0 r ≡ inside f low high r
@@ -70,3 +72,12 @@ module _ (f : Relation) (low high brackets r : ℕ) (a b : Bool) (e : a ≡ ((eq
   unfolding inRange
   rest-of-range y z d q j =
       q ∙ ap₂ (λ (s t : Bool). (s and t) or f high r) (eqb-sym high r) j ∙ sym (and-given _ _ (sym low-of ∙ y))
+
+-- a place of a row is itself, and past the rows it is their count
+pub up-to-place : (count place : ℕ) → place < count → upTo count place ≡ place
+unfolding upTo
+up-to-place count place l = rw (lt-ltb place count l) refl
+
+pub up-to-count : (count place : ℕ) → count ≤ place → upTo count place ≡ count
+unfolding upTo
+up-to-count count place l = rw (le-ltb place count l) refl

@@ -40,6 +40,10 @@ rowFails look used f row =
 unfoldable pub firstFailing : ℕ → ℕ → Relation → ℕ → List ModifyRow → ℕ
 firstFailing look used f count rows = least count (λ i. rowFails look used f (rowAt rows i))
 
+-- a place of a row, and the rows' count where no row stands there
+unfoldable pub upTo : ℕ → ℕ → ℕ
+upTo count place = pick (ltb place count) place count
+
 -- two rows whose ranges overlap in part: number 26
 unfoldable pub overlap : Relation → ModifyRow → ModifyRow → Bool
 overlap f row other = overlapInPart (within f row) (within f other)

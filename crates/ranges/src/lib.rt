@@ -8,7 +8,7 @@ ghost use Rattle.sets.specs.Tests.{_and_, _or_, _implies_};
 ghost use Rattle.sets.specs.Sets.{has, all, Exactly};
 ghost use Rattle.order.specs.Order.{senior};
 ghost use Rattle.ranges.specs.Ranges.{inside, inRange, encapsulated, parted, overlapInPart};
-ghost use Rattle.ranges.specs.Rows.{within, rowFails, firstFailing, overlapFrom, firstOverlap, unsound};
+ghost use Rattle.ranges.specs.Rows.{within, rowFails, upTo, firstFailing, overlapFrom, firstOverlap, unsound};
 use order::Order;
 use order::is_senior;
 use order::juniors_of;
@@ -159,7 +159,22 @@ pub fn overlaps(range: u64, row: ModifyRow, juniors: &[u64]) -> bool
     minus(other, range) != 0
 }
 
-// The first of the rows that fails the test that is looked for; their count where none does.
+// The first of the rows lent that fails the test that is looked for; their count where none does.
+fn failing_row(rows: &[ModifyRow], look: u8, used: u64, juniors: &[u64]) -> usize
+    requires { ⌜ length (now juniors) ≡ 64 ⌝ }
+    ensures { λ r. ⌜ r ≡ firstFailing look used (senior (now (juniors .entry))) (length (now (rows .entry))) (now (rows .entry)) ⌝ }
+{
+    let mut i = 0;
+    while i < rows.len() {
+        if row_fails(rows[i], look, used, juniors) {
+            break;
+        }
+        i += 1;
+    }
+    i
+}
+
+// The same of the first of the rows by value, which are lent: who calls this sees no lent record.
 pub fn first_failing(
     rows: [ModifyRow; 64],
     count: usize,
@@ -170,17 +185,35 @@ pub fn first_failing(
     requires { ⌜ (count ≤ 64) × (length (now juniors) ≡ 64) ⌝ }
     ensures { λ r. ⌜ r ≡ firstFailing look used (senior (now (juniors .entry))) count rows ⌝ }
 {
-    let mut i = 0;
-    while i < count {
-        if row_fails(rows[i], look, used, juniors) {
-            return i;
-        }
-        i += 1;
+    failing_row(&rows[..count], look, used, juniors)
+}
+
+// A place, or the rows' count where the place is past the last row.
+fn at_most(place: usize, count: usize) -> usize
+    ensures { λ r. ⌜ r ≡ upTo count place ⌝ }
+{
+    if place < count {
+        return place;
     }
     count
 }
 
-// The first row from a place on that overlaps a range in part; the rows' count where none does.
+// The first of the rows lent, from a place on, that overlaps a range in part; their count where none does.
+fn overlapping_row(rows: &[ModifyRow], from: usize, range: u64, juniors: &[u64]) -> usize
+    requires { ⌜ length (now juniors) ≡ 64 ⌝ }
+    ensures { λ r. ⌜ r ≡ overlapFrom (senior (now (juniors .entry))) (length (now (rows .entry))) (now (rows .entry)) from (has range) ⌝ }
+{
+    let mut i = from;
+    while i < rows.len() {
+        if overlaps(range, rows[i], juniors) {
+            break;
+        }
+        i += 1;
+    }
+    at_most(i, rows.len())
+}
+
+// The same of the first of the rows by value, which are lent.
 pub fn overlap_from(
     rows: [ModifyRow; 64],
     count: usize,
@@ -191,14 +224,7 @@ pub fn overlap_from(
     requires { ⌜ (count ≤ 64) × (length (now juniors) ≡ 64) ⌝ }
     ensures { λ r. ⌜ r ≡ overlapFrom (senior (now (juniors .entry))) count rows from (has range) ⌝ }
 {
-    let mut j = from;
-    while j < count {
-        if overlaps(range, rows[j], juniors) {
-            return j;
-        }
-        j += 1;
-    }
-    count
+    overlapping_row(&rows[..count], from, range, juniors)
 }
 
 // The first row that overlaps a later one in part; the rows' count where none does.
