@@ -174,7 +174,7 @@ fn failing_row(rows: &[ModifyRow], look: u8, used: u64, juniors: &[u64]) -> usiz
     i
 }
 
-// The same of the first of the rows by value, which are lent: who calls this sees no lent record.
+// The same of the first rows of an array by value, which lends them: its callers have no record lent, and no walk to prove.
 pub fn first_failing(
     rows: [ModifyRow; 64],
     count: usize,
@@ -213,7 +213,7 @@ fn overlapping_row(rows: &[ModifyRow], from: usize, range: u64, juniors: &[u64])
     at_most(i, rows.len())
 }
 
-// The same of the first of the rows by value, which are lent.
+// The same of the first rows of an array by value, which lends them.
 pub fn overlap_from(
     rows: [ModifyRow; 64],
     count: usize,

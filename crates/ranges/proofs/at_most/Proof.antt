@@ -1,5 +1,4 @@
 use mathlib.Core.Path.{sym}
-use borrow.Author.Needs.{needs}
 use Rattle.ranges.proofs.Laws.{up-to-place, up-to-count}
 use Rattle.ranges.proofs.at_most.Statement.{statement}
 use Rattle.ranges.proofs.at_most.Tie as tie
