@@ -4,19 +4,24 @@
 use mathlib.Core.Path.{_≡_, refl, sym, ap, _∙_}
 use mathlib.Core.Bool.{Bool, true, false}
 use mathlib.Core.List.{List, [], _∷_}
-use Prim.Native.Nat.{ℕ, zero, suc}
+use Prim.Native.Nat.{ℕ, zero, suc, _≤_}
+use native.Mathlib.Omega.{arith}
+use lib.Dec.{eqb}
 use lib.ListN.{getD}
-use Rattle.sets.specs.Tests.{_and_, _or_}
+use Rattle.sets.specs.Tests.{_and_, _or_, pick}
+use Rattle.sets.specs.Sets.{lowestFree}
+use Rattle.sets.proofs.Quantifiers.{least-le}
 use Rattle.sets.proofs.Tests.{clash, and-l, and-r}
 use Rattle.policy.specs.declared.Policy.{Policy}
 use Rattle.policy.specs.declared.Answer.{Answer}
 use Rattle.policy.specs.Good.{Good}
-use Rattle.policy.specs.Outcome.{Refusals, accept, refuse, first, refused, answer}
+use Rattle.policy.specs.Outcome.{Refusals, accept, refuse, first, refused, accepted, answer}
 use Rattle.policy.proofs.Outcomes.{answer-outcome}
 use Rattle.policy.proofs.FirstLaws.{answer-unchanged}
 use Rattle.members.specs.Rules.{assignUser, revokeUser, assignPermission, revokePermission, assignRules, revokeRules}
 use Rattle.members.proofs.Promised as members
-use Rattle.hierarchy.specs.Rules.{createRole, deleteRole, insertEdge, deleteEdge, createRules, deleteRules, insertRules, cutRules}
+use Rattle.hierarchy.specs.declared.Site.{Site}
+use Rattle.hierarchy.specs.Rules.{site, newRole, createRole, deleteRole, insertEdge, deleteEdge, createRules, deleteRules, insertRules, cutRules}
 use Rattle.safety.proofs.Goodness.{create-good, delete-good, insert-good, cut-good}
 use Rattle.requests.specs.declared.Request.{Request}
 use Rattle.requests.specs.Requests.{decide, rulesOf}
@@ -32,30 +37,44 @@ pub record Decided (p : Policy) (refusals : Refusals) (r : Answer) : Type 0 wher
   pub unchanged : (r .outcome ≡ 0 → ⊥) → r .policy ≡ p
   pub number : (r .outcome ≡ 0 → ⊥) → r .number ≡ 0
   pub good : Good p → Good (r .policy)
+  pub role : r .number ≤ 64
+
+-- the number beside it is a role's, or 0
+answer-role : (p : Policy) (n : ℕ) (q : Policy) (k : ℕ) → k ≤ 64 → answer p n q k .number ≤ 64
+unfolding answer
+answer-role p n q k l = by (eqb n 0)
+  where
+    by : (b : Bool) → pick b (accepted q k) (refused p n) .number ≤ 64
+    by true = l
+    by false = omega arith
+
+new-role : (s : Site) → newRole s ≤ 64
+unfolding newRole lowestFree
+new-role s = least-le 64 _
 
 -- an answer made of the first refusal
-decided : (p : Policy) (refusals : Refusals) (q : Policy) (k : ℕ) → (Good p → Good (answer p (first refusals) q k .policy)) → Decided p refusals (answer p (first refusals) q k)
-decided p r q k g =
+decided : (p : Policy) (refusals : Refusals) (q : Policy) (k : ℕ) → k ≤ 64 → (Good p → Good (answer p (first refusals) q k .policy)) → Decided p refusals (answer p (first refusals) q k)
+decided p r q k l g =
     let u = answer-unchanged p (first r) q k in
-    record { outcome = answer-outcome p (first r) q k; unchanged = u .policy; number = u .number; good = g }
+    record { outcome = answer-outcome p (first r) q k; unchanged = u .policy; number = u .number; good = g; role = answer-role p (first r) q k l }
 
 -- a kind that is none of the eight: number 1
 unknown-kind : (p : Policy) → Decided p (refuse true 1 accept) (refused p 1)
 unfolding first
-unknown-kind p = record { outcome = refl; unchanged = λ z. refl; number = λ z. refl; good = λ g. g }
+unknown-kind p = record { outcome = refl; unchanged = λ z. refl; number = λ z. refl; good = λ g. g; role = omega arith }
 
 pub every-request : (p : Policy) (q : Request) → Decided p (rulesOf p q) (decide p q)
 unfolding decide rulesOf assignUser revokeUser assignPermission revokePermission createRole deleteRole insertEdge deleteEdge
 every-request p q =
     kind-cases (λ k. Decided p (rulesOf p (ofKind q k)) (decide p (ofKind q k)))
-    (decided p _ _ _ (members.assign-user p o a b .good))
-    (decided p _ _ _ (members.revoke-user p o a b .good))
-    (decided p _ _ _ (members.assign-permission p o a b .good))
-    (decided p _ _ _ (members.revoke-permission p o a b .good))
-    (decided p _ _ _ (λ g. create-good p o g a b))
-    (decided p _ _ _ (λ g. delete-good p o g a b))
-    (decided p _ _ _ (λ g. insert-good p o g a b))
-    (decided p _ _ _ (λ g. cut-good p o g a b))
+    (decided p _ _ _ (omega arith) (members.assign-user p o a b .good))
+    (decided p _ _ _ (omega arith) (members.revoke-user p o a b .good))
+    (decided p _ _ _ (omega arith) (members.assign-permission p o a b .good))
+    (decided p _ _ _ (omega arith) (members.revoke-permission p o a b .good))
+    (decided p _ _ _ (new-role (site p o)) (λ g. create-good p o g a b))
+    (decided p _ _ _ (omega arith) (λ g. delete-good p o g a b))
+    (decided p _ _ _ (omega arith) (λ g. insert-good p o g a b))
+    (decided p _ _ _ (omega arith) (λ g. cut-good p o g a b))
     (λ k n. rw (n .not1, n .not2, n .not3, n .not4, n .not5, n .not6, n .not7, n .not8) (unknown-kind p))
     (q .kind)
   where

@@ -11,7 +11,7 @@ use lib.ListN.{length, getD, List·getD-eq-default}
 use borrow.Author.Tests.{ne-eqb, ltb-true}
 use Rattle.sets.specs.Tests.{_and_, _or_, _iff_}
 use Rattle.sets.specs.Sets.{has, all}
-use Rattle.sets.proofs.Tests.{and-l, and-r, or-fails, iff-e}
+use Rattle.sets.proofs.Tests.{clash, and-l, and-r, or-fails, iff-e}
 use Rattle.sets.proofs.Digits.{has-beyond, lt-or-le}
 use Rattle.sets.proofs.Quantifiers.{all-at}
 use Rattle.requests.specs.Numbers.{among, numbers, mayGive}
@@ -50,3 +50,22 @@ known-kind k n l = entry k n (all-at 9 right all-right k l)
 pub unknown-kind : (k n : ℕ) → 9 ≤ k → has (getD rows 0 0) n ≡ mayGive k n
 unfolding mayGive numbers
 unknown-kind k n l = entry 0 n (all-at 9 right all-right 0 (omega arith)) ∙ ap (among n) (sym (List·getD-eq-default numbers (1 ∷ []) l))
+
+-- no number is 64 or more
+known-below : (k : ℕ) → right k ≡ true → below (getD numbers k (1 ∷ [])) ≡ true
+unfolding right
+known-below k e = and-l _ _ (and-r _ _ e)
+
+row-below : (k : ℕ) → below (getD numbers k (1 ∷ [])) ≡ true
+unfolding numbers
+row-below k =
+    ⊎-elim (λ l. known-below k (all-at 9 right all-right k l))
+    (λ l. ap below (List·getD-eq-default numbers (1 ∷ []) l) ∙ unknown-below) (lt-or-le k 9)
+  where
+    unknown-below : below (1 ∷ []) ≡ true
+    unknown-below = known-below 0 (all-at 9 right all-right 0 (omega arith))
+
+pub given-below : (k n : ℕ) → mayGive k n ≡ true → n < 64
+unfolding mayGive
+given-below k n e =
+    ⊎-elim (λ l. l) (λ l. clash e (among-below n _ l (row-below k))) (lt-or-le n 64)

@@ -1,4 +1,4 @@
--- How far into the input a refusal's place can be: a number has ten bytes at most and a file 2,634 numbers at most, so a place fits 16 bits.
+-- How far into the input a place can be: a number has ten bytes at most and a file 2,634 numbers at most, so a place fits 16 bits.
 -- Assumes nothing.
 use Prim.Native.Nat.{ℕ, zero, suc, _+_, _*_, _≤_}
 use mathlib.Core.Path.{_≡_, refl}
@@ -32,7 +32,10 @@ use Rattle.reading.specs.declared.Front.{Front}
 use Rattle.reading.specs.declared.Rest.{Rest}
 use Rattle.reading.specs.declared.How.the-variants as how
 use Rattle.reading.specs.File.{oneAt, frontAt, restAt, file, judge, fileAt, readPolicy}
-use Rattle.reading.proofs.Theorems.{of-refused}
+use Rattle.reading.proofs.Theorems.{of-refused, file-end}
+use Rattle.parts.specs.declared.Part.the-variants.{Found}
+use Rattle.parts.specs.Parts.{partAt}
+use Rattle.parts.proofs.Laws.{part-found, found-inside}
 
 -- ---- readings that end, or are refused, at a place u at most
 
@@ -278,3 +281,9 @@ module _ (s : List ℕ) where
   pub refused-near : {c p : ℕ} → readPolicy s .how ≡ how.Refused c p → p ≤ 26340
   unfolding readPolicy
   refused-near {c} {p} q = file-until .refuses c p (of-refused (fileAt s) q)
+
+  -- where the part of a table ends
+  pub part-near : (k : ℕ) {a n : ℕ} → partAt s k ≡ Found a n → a + n ≤ 26340
+  part-near k {a} {n} q =
+      let w = part-found s k q in
+      omega (arith, found-inside s k q .1, file-end s (w .3), file-until .ends (w .1) (w .2) (w .3))

@@ -1,0 +1,42 @@
+-- Four numbers in one, and what is carried out. Assumes nothing.
+use Prim.Native.Nat.{ℕ, _≤_}
+use mathlib.Core.Path.{_≡_, refl, sym, ap, _∙_, subst}
+use mathlib.Core.Bool.{true, false}
+use mathlib.Core.List.{List}
+use native.Mathlib.Omega.{arith}
+use borrow.Author.Tests.{ne-eqb}
+use lib.Dec.{eqb}
+use Rattle.policy.specs.declared.Answer.{Answer}
+use Rattle.writing.specs.declared.Written.{Written}
+use Rattle.writing.specs.declared.Written.the-variants.{TooShort, Length}
+use Rattle.writing.specs.Writing.{Output, answerOf, writtenOutcome, writtenLength}
+use Rattle.writing.proofs.Outputs.{length-most}
+use Rattle.answers.specs.Answers.{Fields, Fit, packed, refusal, ofWritten}
+use Rattle.answers.specs.Carried.{CarriedOut, Ready, carriedOut, carriedBytes}
+
+pub fit-is : {f g : Fields} → f ≡ g → Fit f → Fit g
+fit-is {f} {g} q w = subst Fit q w
+
+-- ---- what is carried out
+
+module _ (d : Answer) (o : List ℕ) where
+  -- a refusal, and nothing is written
+  pub refused-carried : (d .outcome ≡ 0 → ⊥) → {r : ℕ} → r ≡ packed (refusal (d .outcome) 0) → CarriedOut d o r o
+  unfolding carriedOut carriedBytes
+  refused-carried n q = record { answer = q ∙ rw not-zero; bytes = rw not-zero }
+    where
+      not-zero : eqb (d .outcome) 0 ≡ false
+      not-zero = ne-eqb _ _ n
+
+  -- the policy after, written
+  pub written-carried : d .outcome ≡ 0 → {w : Written} {a : List ℕ} → Output (d .policy) o w a → {r : ℕ} → r ≡ packed (ofWritten (d .number) w) → CarriedOut d o r a
+  unfolding carriedOut carriedBytes
+  written-carried z {w} {a} out q = record { answer = q ∙ rw (z, out .answer); bytes = out .bytes ∙ rw z }
+
+  pub written-fits : Ready d → {w : Written} {a : List ℕ} → Output (d .policy) o w a → Fit (ofWritten (d .number) w)
+  unfolding writtenOutcome writtenLength
+  written-fits ready {w} out = by w (length-most (d .policy) o out (ready .good))
+    where
+      by : (v : Written) → writtenLength v ≤ 10375 → Fit (ofWritten (d .number) v)
+      by TooShort l = record { outcome = omega arith; number = omega arith; place = omega arith; length = omega arith }
+      by (Length n) l = record { outcome = omega arith; number = ready .number; place = omega arith; length = omega (arith, l) }

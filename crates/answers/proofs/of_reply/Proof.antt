@@ -1,0 +1,53 @@
+-- Assumes nothing.
+use mathlib.Core.Path.{sym, _∙_, ap}
+use Rattle.answers.specs.Answers.{packed, ofReply}
+use borrow.Author.Needs.{needs}
+use Rattle.answers.proofs.of_reply.Statement.{statement}
+use Rattle.answers.proofs.of_reply.Tie as tie
+use Rattle.answers.proofs.of_reply.Reads as reads
+use Rattle.answers.proofs.of_reply.Lts as lts
+use Rattle.answers.proofs.pack.Reads as pack-reads
+
+enum-told : tie.Need-enum-told
+enum-told c = search needs
+
+pack-requires : tie.Need-pack-requires
+pack-requires c κs = search needs
+
+enum-told-2 : tie.Need-enum-told-2
+enum-told-2 c = search needs
+
+pack-requires-2 : tie.Need-pack-requires-2
+pack-requires-2 c κs = search needs
+
+enum-told-3 : tie.Need-enum-told-3
+enum-told-3 c = search needs
+
+pack-requires-3 : tie.Need-pack-requires-3
+pack-requires-3 c κs = search needs
+
+returns : tie.Need-returns
+returns c =
+    c .pack .ensures ∙ sym (ap (λ x. packed (ofReply x)) (c .before .enum-told .given .1))
+
+returns-2 : tie.Need-returns-2
+returns-2 c =
+    c .pack2 .ensures ∙ sym (ap (λ x. packed (ofReply x)) (c .before .enum-told2 .given .1))
+
+returns-3 : tie.Need-returns-3
+returns-3 c =
+    c .pack3 .ensures ∙ sym (ap (λ x. packed (ofReply x)) (c .before .enum-told3 .given .1))
+
+pub of-reply-spec : {M : Type 1} → statement M
+of-reply-spec =
+    tie.close
+    (tie.spec
+    enum-told
+    pack-requires
+    enum-told-2
+    pack-requires-2
+    enum-told-3
+    pack-requires-3
+    returns
+    returns-2
+    returns-3)

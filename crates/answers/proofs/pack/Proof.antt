@@ -1,0 +1,35 @@
+-- Assumes nothing.
+use Rattle.answers.specs.Answers.{packed}
+use mathlib.Core.Path.{refl}
+use borrow.Author.Needs.{needs}
+use Rattle.answers.proofs.pack.Statement.{statement}
+use Rattle.answers.proofs.pack.Tie as tie
+use Rattle.answers.proofs.pack.Reads as reads
+use Rattle.answers.proofs.pack.Lts as lts
+
+mul-result : tie.Need-mul-result
+mul-result c = search needs
+
+add-result : tie.Need-add-result
+add-result c = search needs
+
+mul-result-2 : tie.Need-mul-result-2
+mul-result-2 c = search needs
+
+add-result-2 : tie.Need-add-result-2
+add-result-2 c = search needs
+
+mul-result-3 : tie.Need-mul-result-3
+mul-result-3 c = search needs
+
+add-result-3 : tie.Need-add-result-3
+add-result-3 c = search needs
+
+returns : tie.Need-returns
+unfolding packed
+returns c = refl
+
+pub pack-spec : {M : Type 1} → statement M
+pack-spec =
+    tie.close
+    (tie.spec mul-result add-result mul-result-2 add-result-2 mul-result-3 add-result-3 returns)

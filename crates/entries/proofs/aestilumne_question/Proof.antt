@@ -1,0 +1,50 @@
+-- Assumes nothing.
+use Rattle.entries.proofs.Laws.{file-fits, bad-question, good-question}
+use borrow.Author.Needs.{needs}
+use Rattle.entries.proofs.aestilumne_question.Statement.{statement}
+use Rattle.entries.proofs.aestilumne_question.Tie as tie
+use Rattle.entries.proofs.aestilumne_question.Reads as reads
+use Rattle.entries.proofs.aestilumne_question.Lts as lts
+use Rattle.answers.proofs.of_file.Reads as of-file-reads
+use Rattle.answers.proofs.of_reply.Reads as of-reply-reads
+use Rattle.policy.proofs.question.Reads as question-reads
+use Rattle.reading.proofs.read_policy.Reads as read-policy-reads
+
+read-policy-requires : tie.Need-read-policy-requires
+read-policy-requires c κs = search needs
+
+enum-told : tie.Need-enum-told
+enum-told c = search needs
+
+enum-told-2 : tie.Need-enum-told-2
+enum-told-2 c = search needs
+
+of-file-requires : tie.Need-of-file-requires
+of-file-requires c κs = file-fits _ (c .before .before .read-policy .ensures)
+
+returns : tie.Need-returns
+returns c =
+    bad-question _ (c .before .before .before .read-policy .ensures) (c .before .enum-told2 .given .1) (c .of-file .ensures) _ _
+
+question-requires : tie.Need-question-requires
+question-requires c κs = search needs
+
+of-reply-requires : tie.Need-of-reply-requires
+of-reply-requires c κs = search needs
+
+returns-2 : tie.Need-returns-2
+returns-2 c =
+    good-question _ (c .before .before .before .before .read-policy .ensures) (c .before .before .enum-told .given .1) _ _ (c .before .question .ensures) (c .of-reply .ensures)
+
+pub aestilumne-question-spec : {M : Type 1} → statement M
+aestilumne-question-spec =
+    tie.close
+    (tie.spec
+    read-policy-requires
+    enum-told
+    enum-told-2
+    of-file-requires
+    returns
+    question-requires
+    of-reply-requires
+    returns-2)
