@@ -1,5 +1,5 @@
 -- Four numbers in one, and what is carried out. Assumes nothing.
-use Prim.Native.Nat.{ℕ, _≤_}
+use Prim.Native.Nat.{ℕ, _+_, _*_, _/_, _%_, _≤_, _<_}
 use mathlib.Core.Path.{_≡_, refl, sym, ap, _∙_, subst}
 use mathlib.Core.Bool.{true, false}
 use mathlib.Core.List.{List}
@@ -11,11 +11,30 @@ use Rattle.writing.specs.declared.Written.{Written}
 use Rattle.writing.specs.declared.Written.the-variants.{TooShort, Length}
 use Rattle.writing.specs.Writing.{Output, answerOf, writtenOutcome, writtenLength}
 use Rattle.writing.proofs.Outputs.{length-most}
-use Rattle.answers.specs.Answers.{Fields, Fit, packed, refusal, ofWritten}
+use Rattle.answers.specs.Answers.{Fields, Fit, fields, packed, apart, refusal, ofWritten}
 use Rattle.answers.specs.Carried.{CarriedOut, Ready, carriedOut, carriedBytes}
 
 pub fit-is : {f g : Fields} → f ≡ g → Fit f → Fit g
 fit-is {f} {g} q w = subst Fit q w
+
+pub fits : {o n p l : ℕ} → o < 256 → n < 256 → p < 65536 → l < 4294967296 → Fit (fields o n p l)
+fits a b c d = record { outcome = a; number = b; place = c; length = d }
+
+-- the four come out again as they went in
+pub apart-packed : (f : Fields) → Fit f → apart (packed f) ≡ f
+unfolding packed apart
+apart-packed f w =
+    let high : packed f / 256 ≡ f .number + f .place * 256 + f .length * 16777216 = omega (arith, w .outcome) in
+    let higher : packed f / 65536 ≡ f .place + f .length * 65536 = omega (arith, w .outcome, w .number) in
+    let o : packed f % 256 ≡ f .outcome = omega (arith, w .outcome) in
+    let n : packed f / 256 % 256 ≡ f .number = rw high (omega (arith, w .number)) in
+    let p : packed f / 65536 % 65536 ≡ f .place = rw higher (omega (arith, w .place)) in
+    let l : packed f / 4294967296 ≡ f .length = omega (arith, w .outcome, w .number, w .place) in
+    rw (o, n, p, l) refl
+
+-- an answer that is known, taken apart
+pub answered : {r : ℕ} {f : Fields} (g : Fields) → Fit g → r ≡ packed f → f ≡ g → apart r ≡ g
+answered g w q e = ap apart (q ∙ ap packed e) ∙ apart-packed g w
 
 -- ---- what is carried out
 
@@ -38,5 +57,5 @@ module _ (d : Answer) (o : List ℕ) where
   written-fits ready {w} out = by w (length-most (d .policy) o out (ready .good))
     where
       by : (v : Written) → writtenLength v ≤ 10375 → Fit (ofWritten (d .number) v)
-      by TooShort l = record { outcome = omega arith; number = omega arith; place = omega arith; length = omega arith }
-      by (Length n) l = record { outcome = omega arith; number = ready .number; place = omega arith; length = omega (arith, l) }
+      by TooShort l = fits (omega arith) (omega arith) (omega arith) (omega arith)
+      by (Length n) l = fits (omega arith) (ready .number) (omega arith) (omega (arith, l))

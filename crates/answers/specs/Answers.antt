@@ -1,7 +1,7 @@
 -- What an entry answers: one number that holds four, so that a refusal touches no lent memory at all.
 use Prim.Native.Nat.{ℕ, _+_, _*_, _/_, _%_, _<_}
 use Rattle.policy.specs.declared.Reply.{Reply}
-use Rattle.policy.specs.declared.Reply.the-variants as reply
+use Rattle.policy.specs.Question.{replyOutcome, replyValue}
 use Rattle.reading.specs.declared.How.{How}
 use Rattle.reading.specs.declared.How.the-variants as how
 use Rattle.parts.specs.declared.Part.{Part}
@@ -26,7 +26,7 @@ unfoldable pub packed : Fields → ℕ
 packed f = f .outcome + f .number * 256 + f .place * 65536 + f .length * 4294967296
 
 -- the four taken out again, as the header does it
-abbrev pub apart : ℕ → Fields
+unfoldable pub apart : ℕ → Fields
 apart r = fields (r % 256) (r / 256 % 256) (r / 65536 % 65536) (r / 4294967296)
 
 -- each fits its bits
@@ -57,11 +57,8 @@ ofWritten n w = fields (writtenOutcome w) (beside n w) 0 (writtenLength w)
 abbrev pub ofListed : Listed → Fields
 ofListed l = fields (listedOutcome l) 0 0 (listedCount l)
 
--- "a user or permission that is not there gives 2"; 1 for yes, 0 for no
 abbrev pub ofReply : Reply → Fields
-ofReply reply.Unknown = refusal 2 0
-ofReply reply.Yes = fields 0 1 0 0
-ofReply reply.No = fields 0 0 0 0
+ofReply y = fields (replyOutcome y) (replyValue y) 0 0
 
 abbrev pub ofPart : Part → Fields
 ofPart (found.Found start len) = fields 0 0 start len

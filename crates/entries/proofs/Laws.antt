@@ -33,6 +33,7 @@ use Rattle.listing.specs.Listing.{ListingOf, entryCount, listed, listedOutcome,
 use Rattle.listing.proofs.Promised.{enough}
 use Rattle.answers.specs.Answers.{Fit, packed, refusal, ofFile, ofListed, ofReply, ofPart}
 use Rattle.answers.specs.Carried.{CarriedOut, Ready}
+use Rattle.answers.proofs.Laws.{fits}
 use Rattle.entries.specs.Entries.{CheckOf, RequestOf, ListOf, QuestionOf, TableOf, requestFields, requestBytes, listingFields, listingBytes, questionFields}
 
 -- ---- a file that was read
@@ -43,14 +44,9 @@ module _ (s : List ℕ) {l : Loaded} (e : l ≡ readPolicy s) where
   file-fits = by (l .how) (sym (ap (λ (m : Loaded). m .how) e))
     where
       by : (h : How) → readPolicy s .how ≡ h → Fit (ofFile h)
-      by Accepted q = record { outcome = omega arith; number = omega arith; place = omega arith; length = omega arith }
+      by Accepted q = fits (omega arith) (omega arith) (omega arith) (omega arith)
       by (Refused c p) q =
-          record {
-            outcome = omega (arith, refused-within s q .high);
-            number = omega arith;
-            place = omega (arith, refused-near s q);
-            length = omega arith;
-          }
+          fits (omega (arith, refused-within s q .high)) (omega arith) (omega (arith, refused-near s q)) (omega arith)
 
   pub checked : {r : ℕ} → r ≡ packed (ofFile (l .how)) → CheckOf s r
   checked q = record { answer = q ∙ ap (λ (m : Loaded). packed (ofFile (m .how))) e }
@@ -108,10 +104,10 @@ module _ (s : List ℕ) {l : Loaded} (e : l ≡ readPolicy s) where
         m = entryCount (l .policy) officer
 
         by : (t u : Bool) → Fit (ofListed (pick t Unknown (pick u Short (Entries m))))
-        by true u = record { outcome = omega arith; number = omega arith; place = omega arith; length = omega arith }
-        by false true = record { outcome = omega arith; number = omega arith; place = omega arith; length = omega arith }
+        by true u = fits (omega arith) (omega arith) (omega arith) (omega arith)
+        by false true = fits (omega arith) (omega arith) (omega arith) (omega arith)
         by false false =
-            record { outcome = omega arith; number = omega arith; place = omega arith; length = omega (arith, enough (l .policy) officer) }
+            fits (omega arith) (omega arith) (omega arith) (omega (arith, enough (l .policy) officer))
 
     pub good-listing : (officer : ℕ) {o a : List ℕ} {n : Listed} {r : ℕ} → ListingOf (l .policy) officer o n a → r ≡ packed (ofListed n) → ListOf s officer o r a
     unfolding listingFields listingBytes
@@ -129,16 +125,11 @@ part-fits s k {x} q = by x (sym q)
     by : (y : Part) → partAt s k ≡ y → Fit (ofPart y)
     by (found.Found start len) w =
         let n = part-near s k w in
-        record { outcome = omega arith; number = omega arith; place = omega (arith, n); length = omega (arith, n) }
+        fits (omega arith) (omega arith) (omega (arith, n)) (omega (arith, n))
     by (found.Refused c p) w =
-        ⊎-elim (λ u. rw (u .1, u .2) (record { outcome = omega arith; number = omega arith; place = omega arith; length = omega arith }))
+        ⊎-elim (λ u. rw (u .1, u .2) (fits (omega arith) (omega arith) (omega arith) (omega arith)))
         (λ u.
-        record {
-          outcome = omega (arith, refused-within s (u .1) .high);
-          number = omega arith;
-          place = omega (arith, refused-near s (u .1));
-          length = omega arith;
-        }) (part-refused s k w)
+        fits (omega (arith, refused-within s (u .1) .high)) (omega arith) (omega (arith, refused-near s (u .1))) (omega arith)) (part-refused s k w)
 
 pub part-answered : (s : List ℕ) (k : ℕ) {x : Part} {r : ℕ} → x ≡ partAt s k → r ≡ packed (ofPart x) → TableOf s k r
 part-answered s k q w = record { answer = w ∙ ap (λ y. packed (ofPart y)) q }

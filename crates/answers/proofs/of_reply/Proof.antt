@@ -1,5 +1,6 @@
 -- Assumes nothing.
 use mathlib.Core.Path.{sym, _∙_, ap}
+use Rattle.policy.specs.Question.{replyOutcome, replyValue}
 use Rattle.answers.specs.Answers.{packed, ofReply}
 use borrow.Author.Needs.{needs}
 use Rattle.answers.proofs.of_reply.Statement.{statement}
@@ -27,14 +28,17 @@ pack-requires-3 : tie.Need-pack-requires-3
 pack-requires-3 c κs = search needs
 
 returns : tie.Need-returns
+unfolding replyOutcome replyValue
 returns c =
     c .pack .ensures ∙ sym (ap (λ x. packed (ofReply x)) (c .before .enum-told .given .1))
 
 returns-2 : tie.Need-returns-2
+unfolding replyOutcome replyValue
 returns-2 c =
     c .pack2 .ensures ∙ sym (ap (λ x. packed (ofReply x)) (c .before .enum-told2 .given .1))
 
 returns-3 : tie.Need-returns-3
+unfolding replyOutcome replyValue
 returns-3 c =
     c .pack3 .ensures ∙ sym (ap (λ x. packed (ofReply x)) (c .before .enum-told3 .given .1))
 
