@@ -11,7 +11,7 @@
  *   - each pointer is valid for the length beside it. A length of 0 still takes a pointer that
  *     is not null;
  *   - `out` does not overlap `policy`.
- * A call uses some STACK bytes of stack (AESTILUMNE_STACK below).
+ * A call uses up to 135 KB of stack (measured on x86-64, not proved).
  *
  * An answer is ONE number that holds four. It is never a truth value: take it apart with
  * aestilumne_apart, or ask aestilumne_may.
