@@ -39,7 +39,7 @@ use denote.Triple.Spec.{tripleOf}
 use denote.Triple.Statement.{Triple}
 use denote.Triple.Table.{entered}
 use Rattle.reader.specs.declared.Reader.{Reader}
-use Rattle.reader.proofs.Walk.{Quiet, After, meets}
+use Rattle.ranges.proofs.Walk.{Quiet, After, meets}
 use Rattle.reader.proofs.Reader as T
 use Rattle.reader.proofs.Reader.Laws as T′
 

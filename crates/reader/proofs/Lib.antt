@@ -4,4 +4,3 @@ pub mod Made
 pub mod Sections
 pub mod Shapes
 pub mod Taken
-pub mod Walk

@@ -36,7 +36,7 @@ use Rattle.reader.specs.Standing.{standing}
 use Rattle.reader.specs.declared.Reader.{Reader}
 use Rattle.reader.proofs.Held.{B, inside, view, frames, closes}
 use Rattle.reader.proofs.Shapes.{Section, plainly, over, of-bytes, of-reader, Plainly, Over, making}
-use Rattle.reader.proofs.Walk.{Bound, After, ends-with, calls-met}
+use Rattle.ranges.proofs.Walk.{Bound, After, ends-with, calls-met}
 use Rattle.reader.proofs.Reader as T
 use Rattle.reader.proofs.Reader.Laws as T′
 use Rattle.reader.proofs.stand as stand

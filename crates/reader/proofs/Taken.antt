@@ -35,7 +35,7 @@ use denote.Triple.Entry.{Vals, onEntry}
 use Rattle.reader.specs.declared.Reader.{Reader}
 use Rattle.reader.proofs.Held.{B, view, slice-out, frames, closes}
 use Rattle.reader.proofs.Shapes.{Section, plainly, over, of-bytes, of-reader, Plainly, Over, taking}
-use Rattle.reader.proofs.Walk.{Bound, After, ends-with, calls-met}
+use Rattle.ranges.proofs.Walk.{Bound, After, ends-with, calls-met}
 use Rattle.reader.proofs.Reader as T
 use Rattle.reader.proofs.Reader.Laws as T′
 

@@ -4,7 +4,6 @@ ghost use Rattle.number.specs.declared.Num.{Num};
 ghost use Rattle.reading.specs.File.{oneAt, front, noFront, frontAt, frontRead, places, rest, noRest, restAt, restRead, noFile, stopped, whole, fileAt, fileRead, readPolicy};
 use faults::fault;
 use number::Num;
-use number::read_number;
 use order::Order;
 use policy::Members;
 use policy::Orders;
@@ -14,13 +13,14 @@ use policy::Ranges;
 use policy::Table;
 use policy::Tables;
 use policy::empty_policy;
-use rows::read_ranges;
-use rows::read_table;
+use reader::members_from;
+use reader::number_from;
+use reader::order_from;
+use reader::people_from;
+use reader::ranges_from;
+use reader::table_from;
 use sections::Ended;
 use sections::ended_by;
-use sections::read_members;
-use sections::read_order;
-use sections::read_people;
 
 // The numbers that roles and administrative roles can have, as sets.
 const ROLES: u64 = 0xFFFF_FFFF_FFFF_FFFF;
@@ -83,7 +83,7 @@ pub struct Loaded {
 fn read_one(s: &[u8], at: usize) -> Num
     ensures { λ r. ⌜ r ≡ oneAt (now (s .entry)) at ⌝ }
 {
-    let n = read_number(s, at);
+    let n = number_from(s, at);
     let Num::Value(x, _) = n else {
         return n;
     };
@@ -117,7 +117,7 @@ fn make_front(roles: Order, admins: Order, people: People, permissions: Members)
     }
 }
 
-// The first number, both orders, users and permissions.
+// The first number, both orders, users and permissions: a reader stands where the section before it ends.
 fn read_front(s: &[u8]) -> FrontRead
     ensures { λ r. ⌜ r ≡ frontRead (frontAt (now (s .entry))) ⌝ }
 {
@@ -125,24 +125,24 @@ fn read_front(s: &[u8]) -> FrontRead
     let Num::Value(_, a) = n else {
         return no_front(ended_by(n));
     };
-    let r = read_order(s, a, ROLES);
+    let r = order_from(s, a, ROLES);
     let hr = r.how;
     let Ended::At(b) = hr else {
         return no_front(hr);
     };
     let roles = r.order;
-    let o = read_order(s, b, ADMINS);
+    let o = order_from(s, b, ADMINS);
     let ho = o.how;
     let Ended::At(c) = ho else {
         return no_front(ho);
     };
     let admins = o.order;
-    let u = read_people(s, c, roles.used, admins.used);
+    let u = people_from(s, c, roles.used, admins.used);
     let hu = u.how;
     let Ended::At(d) = hu else {
         return no_front(hu);
     };
-    let p = read_members(s, d, roles.used);
+    let p = members_from(s, d, roles.used);
     let hp = p.how;
     let Ended::At(e) = hp else {
         return no_front(hp);
@@ -205,31 +205,31 @@ fn make_rest(
     }
 }
 
-// The five tables, each from where the one before it ends.
+// The five tables: a reader stands where the table before it ends.
 fn read_rest(s: &[u8], at: usize, roles: u64, admins: u64) -> RestRead
     ensures { λ r. ⌜ r ≡ restRead (restAt (now (s .entry)) roles admins at) ⌝ }
 {
-    let ta = read_table(s, at, roles, admins, true);
+    let ta = table_from(s, at, roles, admins, true);
     let ha = ta.how;
     let Ended::At(b) = ha else {
         return no_rest(ha);
     };
-    let tr = read_table(s, b, roles, admins, false);
+    let tr = table_from(s, b, roles, admins, false);
     let hr = tr.how;
     let Ended::At(c) = hr else {
         return no_rest(hr);
     };
-    let tp = read_table(s, c, roles, admins, true);
+    let tp = table_from(s, c, roles, admins, true);
     let hp = tp.how;
     let Ended::At(d) = hp else {
         return no_rest(hp);
     };
-    let tq = read_table(s, d, roles, admins, false);
+    let tq = table_from(s, d, roles, admins, false);
     let hq = tq.how;
     let Ended::At(e) = hq else {
         return no_rest(hq);
     };
-    let tm = read_ranges(s, e, roles, admins);
+    let tm = ranges_from(s, e, roles, admins);
     let hm = tm.how;
     let Ended::At(end) = hm else {
         return no_rest(hm);

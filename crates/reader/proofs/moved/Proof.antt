@@ -30,7 +30,7 @@ use denote.Triple.Entry.{Vals, onEntry}
 use Rattle.reader.specs.Standing.{standing}
 use Rattle.reader.specs.declared.Reader.{Reader}
 use Rattle.reader.proofs.Held.{B, closes}
-use Rattle.reader.proofs.Walk.{Bound, After, ends-with}
+use Rattle.ranges.proofs.Walk.{Bound, After, ends-with}
 use Rattle.reader.proofs.Reader as T
 use Rattle.reader.proofs.Reader.Laws as T′
 use Rattle.reader.proofs.moved as this

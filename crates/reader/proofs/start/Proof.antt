@@ -29,7 +29,7 @@ use denote.Struct.Rest.{own-shut}
 use denote.Triple.Entry.{onEntry}
 use Rattle.reader.specs.Standing.{standing}
 use Rattle.reader.proofs.Held.{B, view, closes}
-use Rattle.reader.proofs.Walk.{Bound, After, ends-with}
+use Rattle.ranges.proofs.Walk.{Bound, After, ends-with}
 use Rattle.reader.proofs.Reader as T
 use Rattle.reader.proofs.Reader.Laws as T′
 use Rattle.reader.proofs.start as this

@@ -33,8 +33,8 @@ returns c =
     let one = sym (at-read-one .read-one .ensures) ∙ x in
     refused-by noFront (c .no-front .ensures) (c .before .ended-by .ensures) x ∙ rw (one)
 
-read-order-requires : tie.Need-read-order-requires
-read-order-requires c κs = search needs
+order-from-requires : tie.Need-order-from-requires
+order-from-requires c κs = search needs
 
 enum-known-hr : tie.Need-enum-known-hr
 enum-known-hr c = search needs
@@ -48,16 +48,16 @@ no-front-requires-2 c κs = search needs
 returns-2 : tie.Need-returns-2
 unfolding frontAt
 returns-2 c =
-    let at-read-order = c .before .before .before in
-    let at-n = at-read-order .before .before in
+    let at-order-from = c .before .before .before in
+    let at-n = at-order-from .before .before in
     let at-read-one = at-n .before .before in
     let one = sym (at-read-one .read-one .ensures) ∙ at-n .n .given .1 in
     let x = c .before .enum-told2 .given .1 in
-    let roles = lost order-answers (orderAt _ _ _) (at-read-order .read-order .ensures) x in
+    let roles = lost order-answers (orderAt _ _ _) (at-order-from .order-from .ensures) x in
     c .no-front2 .ensures ∙ ap noFront x ∙ rw (one, all-roles, roles)
 
-read-order-requires-2 : tie.Need-read-order-requires-2
-read-order-requires-2 c κs = search needs
+order-from-requires-2 : tie.Need-order-from-requires-2
+order-from-requires-2 c κs = search needs
 
 enum-known-ho : tie.Need-enum-known-ho
 enum-known-ho c = search needs
@@ -71,19 +71,19 @@ no-front-requires-3 c κs = search needs
 returns-3 : tie.Need-returns-3
 unfolding frontAt
 returns-3 c =
-    let at-read-order2 = c .before .before .before in
-    let at-hr = at-read-order2 .before .before .before in
-    let at-read-order = at-hr .before .before in
-    let at-n = at-read-order .before .before in
+    let at-order-from2 = c .before .before .before in
+    let at-hr = at-order-from2 .before .before .before in
+    let at-order-from = at-hr .before .before in
+    let at-n = at-order-from .before .before in
     let at-read-one = at-n .before .before in
     let one = sym (at-read-one .read-one .ensures) ∙ at-n .n .given .1 in
-    let roles = got order-answers (orderAt _ _ _) (at-read-order .read-order .ensures) (at-hr .hr .given .1) in
+    let roles = got order-answers (orderAt _ _ _) (at-order-from .order-from .ensures) (at-hr .hr .given .1) in
     let x = c .before .enum-told3 .given .1 in
-    let admins = lost order-answers (orderAt _ _ _) (at-read-order2 .read-order2 .ensures) x in
+    let admins = lost order-answers (orderAt _ _ _) (at-order-from2 .order-from2 .ensures) x in
     c .no-front3 .ensures ∙ ap noFront x ∙ rw (one, all-roles, roles, all-admins, admins)
 
-read-people-requires : tie.Need-read-people-requires
-read-people-requires c κs = search needs
+people-from-requires : tie.Need-people-from-requires
+people-from-requires c κs = search needs
 
 enum-known-hu : tie.Need-enum-known-hu
 enum-known-hu c = search needs
@@ -97,22 +97,22 @@ no-front-requires-4 c κs = search needs
 returns-4 : tie.Need-returns-4
 unfolding frontAt
 returns-4 c =
-    let at-read-people = c .before .before .before in
-    let at-ho = at-read-people .before .before .before in
-    let at-read-order2 = at-ho .before .before in
-    let at-hr = at-read-order2 .before .before .before in
-    let at-read-order = at-hr .before .before in
-    let at-n = at-read-order .before .before in
+    let at-people-from = c .before .before .before in
+    let at-ho = at-people-from .before .before .before in
+    let at-order-from2 = at-ho .before .before in
+    let at-hr = at-order-from2 .before .before .before in
+    let at-order-from = at-hr .before .before in
+    let at-n = at-order-from .before .before in
     let at-read-one = at-n .before .before in
     let one = sym (at-read-one .read-one .ensures) ∙ at-n .n .given .1 in
-    let roles = got order-answers (orderAt _ _ _) (at-read-order .read-order .ensures) (at-hr .hr .given .1) in
-    let admins = got order-answers (orderAt _ _ _) (at-read-order2 .read-order2 .ensures) (at-ho .ho .given .1) in
+    let roles = got order-answers (orderAt _ _ _) (at-order-from .order-from .ensures) (at-hr .hr .given .1) in
+    let admins = got order-answers (orderAt _ _ _) (at-order-from2 .order-from2 .ensures) (at-ho .ho .given .1) in
     let x = c .before .enum-told4 .given .1 in
-    let people = lost people-answers (peopleAt _ _ _ _) (at-read-people .read-people .ensures) x in
+    let people = lost people-answers (peopleAt _ _ _ _) (at-people-from .people-from .ensures) x in
     c .no-front4 .ensures ∙ ap noFront x ∙ rw (one, all-roles, roles, all-admins, admins, people)
 
-read-members-requires : tie.Need-read-members-requires
-read-members-requires c κs = search needs
+members-from-requires : tie.Need-members-from-requires
+members-from-requires c κs = search needs
 
 enum-known-hp : tie.Need-enum-known-hp
 enum-known-hp c = search needs
@@ -126,21 +126,21 @@ no-front-requires-5 c κs = search needs
 returns-5 : tie.Need-returns-5
 unfolding frontAt
 returns-5 c =
-    let at-read-members = c .before .before .before in
-    let at-hu = at-read-members .before .before in
-    let at-read-people = at-hu .before .before in
-    let at-ho = at-read-people .before .before .before in
-    let at-read-order2 = at-ho .before .before in
-    let at-hr = at-read-order2 .before .before .before in
-    let at-read-order = at-hr .before .before in
-    let at-n = at-read-order .before .before in
+    let at-members-from = c .before .before .before in
+    let at-hu = at-members-from .before .before in
+    let at-people-from = at-hu .before .before in
+    let at-ho = at-people-from .before .before .before in
+    let at-order-from2 = at-ho .before .before in
+    let at-hr = at-order-from2 .before .before .before in
+    let at-order-from = at-hr .before .before in
+    let at-n = at-order-from .before .before in
     let at-read-one = at-n .before .before in
     let one = sym (at-read-one .read-one .ensures) ∙ at-n .n .given .1 in
-    let roles = got order-answers (orderAt _ _ _) (at-read-order .read-order .ensures) (at-hr .hr .given .1) in
-    let admins = got order-answers (orderAt _ _ _) (at-read-order2 .read-order2 .ensures) (at-ho .ho .given .1) in
-    let people = got people-answers (peopleAt _ _ _ _) (at-read-people .read-people .ensures) (at-hu .hu .given .1) in
+    let roles = got order-answers (orderAt _ _ _) (at-order-from .order-from .ensures) (at-hr .hr .given .1) in
+    let admins = got order-answers (orderAt _ _ _) (at-order-from2 .order-from2 .ensures) (at-ho .ho .given .1) in
+    let people = got people-answers (peopleAt _ _ _ _) (at-people-from .people-from .ensures) (at-hu .hu .given .1) in
     let x = c .before .enum-told5 .given .1 in
-    let permissions = lost members-answers (membersAt _ _ _) (at-read-members .read-members .ensures) x in
+    let permissions = lost members-answers (membersAt _ _ _) (at-members-from .members-from .ensures) x in
     c .no-front5 .ensures ∙ ap noFront x ∙ rw (one, all-roles, roles, all-admins, admins, people, permissions)
 
 make-front-requires : tie.Need-make-front-requires
@@ -150,20 +150,20 @@ returns-6 : tie.Need-returns-6
 unfolding frontAt
 returns-6 c =
     let at-hp = c .before .before in
-    let at-read-members = at-hp .before .before in
-    let at-hu = at-read-members .before .before in
-    let at-read-people = at-hu .before .before in
-    let at-ho = at-read-people .before .before .before in
-    let at-read-order2 = at-ho .before .before in
-    let at-hr = at-read-order2 .before .before .before in
-    let at-read-order = at-hr .before .before in
-    let at-n = at-read-order .before .before in
+    let at-members-from = at-hp .before .before in
+    let at-hu = at-members-from .before .before in
+    let at-people-from = at-hu .before .before in
+    let at-ho = at-people-from .before .before .before in
+    let at-order-from2 = at-ho .before .before in
+    let at-hr = at-order-from2 .before .before .before in
+    let at-order-from = at-hr .before .before in
+    let at-n = at-order-from .before .before in
     let at-read-one = at-n .before .before in
     let one = sym (at-read-one .read-one .ensures) ∙ at-n .n .given .1 in
-    let roles = got order-answers (orderAt _ _ _) (at-read-order .read-order .ensures) (at-hr .hr .given .1) in
-    let admins = got order-answers (orderAt _ _ _) (at-read-order2 .read-order2 .ensures) (at-ho .ho .given .1) in
-    let people = got people-answers (peopleAt _ _ _ _) (at-read-people .read-people .ensures) (at-hu .hu .given .1) in
-    let permissions = got members-answers (membersAt _ _ _) (at-read-members .read-members .ensures) (at-hp .hp .given .1) in
+    let roles = got order-answers (orderAt _ _ _) (at-order-from .order-from .ensures) (at-hr .hr .given .1) in
+    let admins = got order-answers (orderAt _ _ _) (at-order-from2 .order-from2 .ensures) (at-ho .ho .given .1) in
+    let people = got people-answers (peopleAt _ _ _ _) (at-people-from .people-from .ensures) (at-hu .hu .given .1) in
+    let permissions = got members-answers (membersAt _ _ _) (at-members-from .members-from .ensures) (at-hp .hp .given .1) in
     rw (one, all-roles, roles, all-admins, admins, people, permissions, c .make-front .ensures)
 
 pub read-front-spec : {M : Type 1} → statement M
@@ -176,22 +176,22 @@ read-front-spec =
     ended-by-requires
     no-front-requires
     returns
-    read-order-requires
+    order-from-requires
     enum-known-hr
     enum-told-2
     no-front-requires-2
     returns-2
-    read-order-requires-2
+    order-from-requires-2
     enum-known-ho
     enum-told-3
     no-front-requires-3
     returns-3
-    read-people-requires
+    people-from-requires
     enum-known-hu
     enum-told-4
     no-front-requires-4
     returns-4
-    read-members-requires
+    members-from-requires
     enum-known-hp
     enum-told-5
     no-front-requires-5
