@@ -8,3 +8,4 @@ pub mod WrittenRows
 pub mod WrittenRead
 pub mod Trips
 pub mod Places
+pub mod Refusals
