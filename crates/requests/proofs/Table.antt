@@ -20,15 +20,15 @@ use Rattle.requests.specs.Numbers.{among, numbers, mayGive}
 unfoldable pub rows : List ℕ
 rows = 2 ∷ 61 ∷ 45 ∷ 61 ∷ 45 ∷ 621 ∷ 399 ∷ 557 ∷ 557 ∷ []
 
--- each number of a list is below 64
+-- each number of a list is below 10
 below : List ℕ → Bool
 below [] = true
-below (n ∷ l) = ltb n 64 and below l
+below (n ∷ l) = ltb n 10 and below l
 
-among-below : (n : ℕ) (l : List ℕ) → 64 ≤ n → below l ≡ true → among n l ≡ false
+among-below : (n : ℕ) (l : List ℕ) → 10 ≤ n → below l ≡ true → among n l ≡ false
 unfolding among below
 among-below n [] h e = refl
-among-below n (m ∷ l) h e = or-fails _ _ (ne-eqb n m (omega (arith, ltb-true m 64 (and-l _ _ e)))) (among-below n l h (and-r _ _ e))
+among-below n (m ∷ l) h e = or-fails _ _ (ne-eqb n m (omega (arith, ltb-true m 10 (and-l _ _ e)))) (among-below n l h (and-r _ _ e))
 
 right : ℕ → Bool
 right k = all 64 (λ n. has (getD rows k 0) n iff mayGive k n) and (below (getD numbers k (1 ∷ [])) and ltb (getD rows k 0) 1024)
@@ -42,7 +42,7 @@ entry : (k n : ℕ) → right k ≡ true → has (getD rows k 0) n ≡ mayGive k
 unfolding right mayGive
 entry k n e =
     ⊎-elim (λ l. iff-e _ _ (all-at 64 _ (and-l _ _ e) n l))
-    (λ l. has-beyond 64 _ n (omega (arith, ltb-true (getD rows k 0) 1024 (and-r _ _ (and-r _ _ e)))) l ∙ sym (among-below n _ l (and-l _ _ (and-r _ _ e)))) (lt-or-le n 64)
+    (λ l. has-beyond 64 _ n (omega (arith, ltb-true (getD rows k 0) 1024 (and-r _ _ (and-r _ _ e)))) l ∙ sym (among-below n _ (omega arith) (and-l _ _ (and-r _ _ e)))) (lt-or-le n 64)
 
 pub known-kind : (k n : ℕ) → k < 9 → has (getD rows k 0) n ≡ mayGive k n
 known-kind k n l = entry k n (all-at 9 right all-right k l)
@@ -51,7 +51,7 @@ pub unknown-kind : (k n : ℕ) → 9 ≤ k → has (getD rows 0 0) n ≡ mayGive
 unfolding mayGive numbers
 unknown-kind k n l = entry 0 n (all-at 9 right all-right 0 (omega arith)) ∙ ap (among n) (sym (List·getD-eq-default numbers (1 ∷ []) l))
 
--- no number is 64 or more
+-- no number is 10 or more
 known-below : (k : ℕ) → right k ≡ true → below (getD numbers k (1 ∷ [])) ≡ true
 unfolding right
 known-below k e = and-l _ _ (and-r _ _ e)
@@ -65,7 +65,7 @@ row-below k =
     unknown-below : below (1 ∷ []) ≡ true
     unknown-below = known-below 0 (all-at 9 right all-right 0 (omega arith))
 
-pub given-below : (k n : ℕ) → mayGive k n ≡ true → n < 64
+pub given-below : (k n : ℕ) → mayGive k n ≡ true → n < 10
 unfolding mayGive
 given-below k n e =
-    ⊎-elim (λ l. l) (λ l. clash e (among-below n _ l (row-below k))) (lt-or-le n 64)
+    ⊎-elim (λ l. l) (λ l. clash e (among-below n _ l (row-below k))) (lt-or-le n 10)
