@@ -1,12 +1,12 @@
 -- What the entries promise, for any bytes and numbers. Assumes nothing.
-use Prim.Native.Nat.{ℕ, _+_, _≤_}
+use Prim.Native.Nat.{ℕ, _+_, _≤_, _<_}
 use mathlib.Core.Path.{_≡_, refl, sym, ap, _∙_, subst}
 use mathlib.Core.Bool.{true, false}
 use mathlib.Core.List.{List, [], _∷_}
 use native.Mathlib.Omega.{arith}
 use borrow.Author.Tests.{le-leb}
 use lib.Dec.{eqb, leb}
-use lib.ListN.{length}
+use lib.ListN.{length, getD}
 use lib.Seq.{sets}
 use Rattle.sets.specs.Tests.{_and_, _or_}
 use Rattle.sets.proofs.Tests.{clash, and-i, or-l, or-r}
@@ -17,7 +17,7 @@ use Rattle.requests.specs.Numbers.{among, mayGive}
 use Rattle.requests.specs.Reached.{Reached, here, next}
 use Rattle.requests.proofs.Decided.{every-request, outcome-given}
 use Rattle.number.specs.Number.{part}
-use Rattle.number.proofs.Parts.{stands-part}
+use Rattle.number.proofs.Parts.{stands-byte, stands-part}
 use Rattle.number.proofs.Stores.{sets-stands}
 use Rattle.reading.specs.declared.How.the-variants.{Accepted, Refused}
 use Rattle.reading.specs.File.{readPolicy}
@@ -157,6 +157,10 @@ module _ (s : List ℕ) {o a : List ℕ} {r : ℕ} (n : apart r .outcome ≡ 0 �
       by (ends.done q d k l e b) = absurd (n (outcome-of e))
 
 -- ---- Any sequence of requests from a loaded file.
+
+-- what is written stands in the buffer
+pub byte-in : (bs o : List ℕ) (i : ℕ) → length bs ≤ length o → i < length bs → getD (sets o 0 bs) i 0 ≡ getD bs i 0
+byte-in bs o i l h = let z : 0 + i ≡ i = omega arith in rw z at (stands-byte (sets-stands o 0 bs (omega arith)) i h)
 
 written : (bs o : List ℕ) → length bs ≤ length o → part (sets o 0 bs) 0 (length bs) ≡ bs
 written bs o l =

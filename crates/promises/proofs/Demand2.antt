@@ -26,10 +26,12 @@ use Rattle.reading.proofs.Theorems.{accepted-good, refused-within}
 use Rattle.parts.specs.Parts.{isTable}
 use Rattle.parts.proofs.Laws.{part-found}
 use Rattle.layout.specs.Layout.{policyBytes}
+use Rattle.layout.proofs.Most.{always-enough}
 use Rattle.trips.proofs.ReadWritten.{read-written-policy}
 use Rattle.trips.proofs.WrittenRead.{written-read-policy}
 use Rattle.trips.proofs.Refusals.{RefusedBy, refused-by, refused-if}
 use Rattle.listing.specs.Listing.{entryCount}
+use Rattle.listing.proofs.Promised.{enough}
 use Rattle.answers.specs.Answers.{Fields, apart, ofReply}
 use Rattle.entries.specs.Entries.{RequestOf, ListOf, QuestionOf, TableOf}
 use Rattle.entries.proofs.Ends as ends
@@ -184,6 +186,10 @@ module _ {s : List ℕ} {x : Request} {o a : List ℕ} {r : ℕ} (w : RequestOf 
         by (ends.too-short t d y k e b) = absurd (omega (arith, after-is d, k, l))
         by (ends.done t d y k e b) = outcome-of e
 
+    -- "10,375 bytes are always enough"
+    pub room-enough : given ≡ 0 → 10375 ≤ length o → apart r .outcome ≡ 0
+    room-enough g l = accepted-then g (omega (arith, always-enough _ (every-request before x .good (accepted-good s ok)), l))
+
 -- The other entries, of a policy file: the listing's 2 and 10, the question's 2 and its yes, and the table's 1, which comes before the file's.
 module _ (s : List ℕ) (ok : readPolicy s .how ≡ Accepted) where
   not-bad : {c p : ℕ} {A : Type 0} → readPolicy s .how ≡ Refused c p → A
@@ -231,6 +237,16 @@ module _ (s : List ℕ) (ok : readPolicy s .how ≡ Accepted) where
         then (ends.unknown t d l e b) m n = absurd (omega (arith, users-are d, l, m))
         then (ends.too-short t d k l e b) m n = outcome-of e
         then (ends.done t d k l e b) m n = absurd (omega (arith, entries-are d, l, n))
+
+    -- "37,056 bytes are always enough."
+    pub listing-enough : officer < users → 37056 ≤ length o → apart r .outcome ≡ 0
+    listing-enough m n = by (ends.listing-ends s officer o w)
+      where
+        by : ends.ListEnds s officer o r a → apart r .outcome ≡ 0
+        by (ends.bad-file t e b) = not-bad t
+        by (ends.unknown t d l e b) = absurd (omega (arith, users-are d, l, m))
+        by (ends.too-short {p = p} t d k l e b) = absurd (omega (arith, enough p officer, l, n))
+        by (ends.done t d k l e b) = outcome-of e
 
   -- the answer is the reply's own number and value
   pub question-answer : {user permission r : ℕ} → QuestionOf s user permission r → apart r ≡ ofReply (question (readPolicy s .policy) user permission)

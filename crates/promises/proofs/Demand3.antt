@@ -19,13 +19,10 @@ use Rattle.requests.specs.Requests.{decide}
 use Rattle.requests.specs.Examples.{ask}
 use Rattle.requests.proofs.Decided.{every-request}
 use Rattle.number.specs.Number.{part}
-use Rattle.number.proofs.Parts.{stands-byte}
-use Rattle.number.proofs.Stores.{sets-stands}
 use Rattle.reading.specs.declared.How.the-variants.{Accepted}
 use Rattle.reading.specs.declared.Loaded.{Loaded}
 use Rattle.reading.specs.File.{readPolicy}
 use Rattle.reading.proofs.Theorems.{accepted-good, refused-within}
-use Rattle.layout.proofs.Most.{always-enough}
 use Rattle.listing.specs.Listing.{accepts, entryCount, listingBytes}
 use Rattle.listing.proofs.Entries.{EntryIs, Before}
 use Rattle.listing.proofs.Promised.{Listed, bytes-long, listed-accepted, exactly, ascending, listed-safe, listed-good, Outside, untouched}
@@ -33,20 +30,16 @@ use Rattle.answers.specs.Answers.{Fields, apart}
 use Rattle.entries.specs.Entries.{RequestOf, ListOf}
 use Rattle.entries.specs.Steps.{FileReached}
 use Rattle.entries.proofs.Ends as ends
-use Rattle.entries.proofs.Promised.{request-file, file-reached}
-use Rattle.promises.proofs.Demand2.{accepted-only, accepted-then, accepted-policy}
+use Rattle.entries.proofs.Promised.{byte-in, file-reached}
+use Rattle.promises.proofs.Demand2.{accepted-only, room-enough, accepted-policy}
 
 outcome-of : {f g : Fields} → f ≡ g → f .outcome ≡ g .outcome
 outcome-of e = ap (λ (h : Fields). h .outcome) e
 
--- a listing in a buffer is the listing's bytes
-byte-in : (bs o : List ℕ) (i : ℕ) → length bs ≤ length o → i < length bs → getD (sets o 0 bs) i 0 ≡ getD bs i 0
-byte-in bs o i l h = let z : 0 + i ≡ i = omega arith in rw z at (stands-byte (sets-stands o 0 bs (omega arith)) i h)
-
 -- "In every policy reached from a loaded one, for every officer": start is a file that was loaded, file one that requests reach from it, s its
 -- policy, a the buffer after the listing's entry was asked and accepted.
 module _ {start file : List ℕ} (ok : readPolicy start .how ≡ Accepted) (way : FileReached start file) (officer : ℕ) {o a : List ℕ} {r : ℕ}
-  (w : ListOf file officer o r a) (z : apart r .outcome ≡ 0) where
+    (w : ListOf file officer o r a) (z : apart r .outcome ≡ 0) where
   abbrev s : Policy
   s = readPolicy file .policy
 
@@ -95,12 +88,14 @@ module _ {start file : List ℕ} (ok : readPolicy start .how ≡ Accepted) (way 
 
   in-buffer : {n k x y : ℕ} → Listed s officer n k x y → (n < apart r .length) × EntryIs a n k x y
   in-buffer {n} h =
-      let m = h .below in
-      (omega (arith, counted, m), record {
-        kind = same-byte (3 * n) (omega (arith, m)) ∙ h .stands .kind;
-        first = same-byte (3 * n + 1) (omega (arith, m)) ∙ h .stands .first;
-        second = same-byte (3 * n + 2) (omega (arith, m)) ∙ h .stands .second;
-      })
+      let m = h .below in (
+        omega (arith, counted, m),
+        record {
+          kind = same-byte (3 * n) (omega (arith, m)) ∙ h .stands .kind;
+          first = same-byte (3 * n + 1) (omega (arith, m)) ∙ h .stands .first;
+          second = same-byte (3 * n + 2) (omega (arith, m)) ∙ h .stands .second;
+        },
+      )
 
   -- "the listing holds exactly the create, delete-role, insert-edge and delete-edge requests that would be accepted"
 
@@ -109,9 +104,8 @@ module _ {start file : List ℕ} (ok : readPolicy start .how ≡ Accepted) (way 
       → RequestOf file (ask officer k x y) o′ r′ a′ → 10375 ≤ length o′ → apart r′ .outcome ≡ 0
   unfolding accepts
   listed-accepted-by-entry {n} {k} {x} {y} l e v m =
-      let q = every-request s (ask officer k x y) in
       let t = eqb-true _ 0 (listed-accepted s officer (in-listing l e) .0) in
-      accepted-then v loaded (sym (q .outcome) ∙ t) (omega (arith, always-enough _ (q .good good), m))
+      room-enough v loaded (sym (every-request s (ask officer k x y) .outcome) ∙ t) m
 
   -- and a request of kinds 5 to 8 that is accepted stands in it
   pub accepted-listed-by-entry : {k x y : ℕ} → 5 ≤ k → k ≤ 8 → {o′ a′ : List ℕ} {r′ : ℕ} → RequestOf file (ask officer k x y) o′ r′ a′
@@ -128,7 +122,7 @@ module _ {start file : List ℕ} (ok : readPolicy start .how ≡ Accepted) (way 
 
   -- "Carrying out any of them": the request's entry was asked for what stands at n, and accepted it
   module _ {n k x y : ℕ} (l : n < apart r .length) (e : EntryIs a n k x y) {o′ a′ : List ℕ} {r′ : ℕ} (v : RequestOf file (ask officer k x y) o′ r′ a′)
-    (t : apart r′ .outcome ≡ 0) where
+      (t : apart r′ .outcome ≡ 0) where
     -- the policy that is then in the buffer
     abbrev after : Policy
     after = readPolicy (part a′ 0 (apart r′ .length)) .policy
