@@ -1,7 +1,7 @@
 -- Four numbers in one, and what is carried out. Assumes nothing.
 use Prim.Native.Nat.{ℕ, _+_, _*_, _/_, _%_, _≤_, _<_}
-use mathlib.Core.Path.{_≡_, refl, sym, ap, _∙_, subst}
-use mathlib.Core.Bool.{true, false}
+use mathlib.Core.Path.{_≡_, refl, ap, _∙_, subst}
+use mathlib.Core.Bool.{false}
 use mathlib.Core.List.{List}
 use native.Mathlib.Omega.{arith}
 use borrow.Author.Tests.{ne-eqb}
@@ -9,7 +9,7 @@ use lib.Dec.{eqb}
 use Rattle.policy.specs.declared.Answer.{Answer}
 use Rattle.writing.specs.declared.Written.{Written}
 use Rattle.writing.specs.declared.Written.the-variants.{TooShort, Length}
-use Rattle.writing.specs.Writing.{Output, answerOf, writtenOutcome, writtenLength}
+use Rattle.writing.specs.Writing.{Output, writtenOutcome, writtenLength}
 use Rattle.writing.proofs.Outputs.{length-most}
 use Rattle.answers.specs.Answers.{Fields, Fit, fields, packed, apart, refusal, ofWritten}
 use Rattle.answers.specs.Carried.{CarriedOut, Ready, carriedOut, carriedBytes}

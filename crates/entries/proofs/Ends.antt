@@ -3,13 +3,12 @@
 use Prim.Native.Nat.{ℕ, _*_, _≤_, _<_}
 use mathlib.Core.Path.{_≡_, refl, sym, ap, _∙_}
 use mathlib.Core.Logic.{⊎-elim}
-use mathlib.Core.Bool.{Bool, true, false}
+use mathlib.Core.Bool.{true, false}
 use mathlib.Core.List.{List}
 use native.Mathlib.Omega.{arith}
 use borrow.Author.Tests.{ne-eqb, le-leb, lt-leb, lt-ltb, le-ltb}
 use lib.ListN.{length}
 use lib.Seq.{sets}
-use Rattle.sets.specs.Tests.{_or_, pick}
 use Rattle.sets.proofs.Digits.{lt-or-le}
 use Rattle.policy.specs.declared.Policy.{Policy}
 use Rattle.policy.specs.declared.Answer.{Answer}
@@ -27,13 +26,13 @@ use Rattle.parts.specs.Parts.{isTable, partAt}
 use Rattle.parts.proofs.Theorems.{part-refused}
 use Rattle.layout.specs.Layout.{policyBytes}
 use Rattle.layout.proofs.Most.{always-enough}
-use Rattle.writing.specs.Writing.{answerOf, bytesAfter, writtenOutcome, writtenLength}
+use Rattle.writing.specs.Writing.{writtenOutcome, writtenLength}
 use Rattle.writing.proofs.Outputs.{short-answer, short-bytes, long-answer, long-bytes}
-use Rattle.listing.specs.declared.Listed.the-variants.{Unknown, Short, Entries}
+use Rattle.listing.specs.declared.Listed.the-variants.{Unknown}
 use Rattle.listing.specs.Listing.{entryCount, listed, filled, listedOutcome, listedCount}
 use Rattle.listing.specs.Listing as listing
 use Rattle.listing.proofs.Promised.{enough}
-use Rattle.answers.specs.Answers.{Fit, fields, packed, apart, refusal, ofFile, ofListed, ofReply, ofPart}
+use Rattle.answers.specs.Answers.{Fit, fields, apart, refusal, ofFile, ofReply, ofPart}
 use Rattle.answers.specs.Carried.{Ready, carriedOut, carriedBytes}
 use Rattle.answers.proofs.Laws.{fits, answered}
 use Rattle.entries.specs.Entries.{CheckOf, RequestOf, ListOf, QuestionOf, TableOf, requestFields, requestBytes, listingFields, listingBytes, questionFields}

@@ -8,7 +8,6 @@ use native.Mathlib.Omega.{arith}
 use lib.Dec.{leb, ltb}
 use lib.ListN.{length}
 use Rattle.sets.specs.Tests.{pick}
-use Rattle.policy.specs.declared.Policy.{Policy}
 use Rattle.policy.specs.declared.Answer.{Answer}
 use Rattle.policy.specs.declared.Reply.{Reply}
 use Rattle.policy.specs.Good.{Good}

@@ -4,11 +4,10 @@ use mathlib.Core.Path.{_≡_, sym, ap, _∙_, subst}
 use mathlib.Core.Bool.{Bool, true, false, not}
 use Prim.Native.Nat.{ℕ, _<_, _^_}
 use lib.Arith.{lt-of-le-ne}
-use lib.Dec.{eqb}
 use borrow.Author.Tests.{eq-eqb, ne-eqb}
-use Rattle.sets.specs.Tests.{_and_, _or_, neg, pick}
+use Rattle.sets.specs.Tests.{neg}
 use Rattle.sets.specs.Sets.{has, size, lowestFree}
-use Rattle.sets.proofs.Tests.{and-given, and-fails-l, and-fails-r, and-l, and-r, neg-i, neg-e, neg-false, not-neg}
+use Rattle.sets.proofs.Tests.{and-given, and-fails-l, and-fails-r, and-l, and-r, neg-i, neg-false, not-neg}
 use Rattle.sets.proofs.Digits.{has-below}
 use Rattle.sets.proofs.Quantifiers.{count-le, lowest-room}
 use Rattle.order.specs.declared.Order.{Order}

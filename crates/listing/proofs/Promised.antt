@@ -8,8 +8,8 @@ use native.Mathlib.Omega.{arith}
 use lib.Dec.{eqb}
 use lib.ListN.{length}
 use borrow.Author.Tests.{eqb-true, eqb-false}
-use Rattle.sets.specs.Tests.{_and_, pick}
-use Rattle.sets.specs.Sets.{has, any, count}
+use Rattle.sets.specs.Tests.{pick}
+use Rattle.sets.specs.Sets.{has, count}
 use Rattle.sets.proofs.Tests.{by-test, clash, not-so, and-l, and-r, neg-false}
 use Rattle.sets.proofs.Quantifiers.{count-add, count-le, any-fails}
 use Rattle.order.specs.Order.{senior}

@@ -1,16 +1,15 @@
 -- Document 01, "The listing": "For an officer: every request of kinds 5 to 8 that would be accepted, ordered by kind, then a, then b, three bytes
 -- each (kind, a, b), from the start of the lent buffer; the count of entries is returned and later bytes stay."
 use mathlib.Core.Path.{_≡_}
-use mathlib.Core.Bool.{Bool, true, false}
+use mathlib.Core.Bool.{Bool}
 use mathlib.Core.List.{List, [], _∷_}
 use Prim.Native.Nat.{ℕ, _+_, _*_, _/_, _%_, _<_}
 use lib.Dec.{eqb, leb, ltb}
 use lib.ListN.{length, getD}
 use lib.Seq.{sets}
-use Rattle.sets.specs.Tests.{_and_, pick}
+use Rattle.sets.specs.Tests.{pick}
 use Rattle.sets.specs.Sets.{has, count, setOf}
 use Rattle.policy.specs.declared.Policy.{Policy}
-use Rattle.requests.specs.declared.Request.{Request}
 use Rattle.requests.specs.Requests.{decide}
 use Rattle.number.specs.Run.{each}
 use Rattle.listing.specs.declared.Listed.{Listed}

@@ -1,13 +1,9 @@
 -- How a policy is made and changed: the empty policy, and the policy with another order of roles, with other roles of users, of permissions.
-use mathlib.Core.List.{List}
 use Prim.Native.Nat.{ℕ}
 use lib.ListN.{set, replicate}
 use Rattle.order.specs.declared.Order.{Order}
-use Rattle.ranges.specs.declared.ModifyRow.{ModifyRow}
 use Rattle.ranges.specs.Rows.{noRow}
-use Rattle.policy.specs.declared.Orders.{Orders}
 use Rattle.policy.specs.declared.Members.{Members}
-use Rattle.policy.specs.declared.People.{People}
 use Rattle.policy.specs.declared.Row.{Row}
 use Rattle.policy.specs.declared.Table.{Table}
 use Rattle.policy.specs.declared.Tables.{Tables}

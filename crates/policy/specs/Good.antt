@@ -1,15 +1,13 @@
 -- The invariant of a policy: what the reader gives, and every request keeps.
 use mathlib.Core.Path.{_≡_}
-use mathlib.Core.Bool.{Bool, true, false}
+use mathlib.Core.Bool.{true}
 use mathlib.Core.List.{List}
 use Prim.Native.Nat.{ℕ, _≤_, _<_, _^_}
 use lib.ListN.{getD, length}
 use Rattle.sets.specs.Sets.{has, subset}
 use Rattle.order.specs.declared.Order.{Order}
 use Rattle.order.specs.Order.{senior, Strict, InUse}
-use Rattle.ranges.specs.declared.ModifyRow.{ModifyRow}
 use Rattle.ranges.specs.Rows.{rowAt, noRow, SoundRows}
-use Rattle.policy.specs.declared.Members.{Members}
 use Rattle.policy.specs.declared.Row.{Row}
 use Rattle.policy.specs.declared.Table.{Table}
 use Rattle.policy.specs.declared.Ranges.{Ranges}

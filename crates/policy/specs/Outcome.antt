@@ -1,5 +1,5 @@
 -- Document 01, "Outcome numbers": "First that holds, in this order. Each leaves the policy unchanged and returns number 0 beside it."
-use mathlib.Core.Bool.{Bool, true, false}
+use mathlib.Core.Bool.{Bool}
 use Prim.Native.Nat.{ℕ}
 use lib.Dec.{eqb}
 use Rattle.sets.specs.Tests.{pick}

@@ -1,5 +1,5 @@
 -- The permission question. Document 01, "Order, ranges, tables" and "Outcome numbers".
-use mathlib.Core.Bool.{Bool, true, false}
+use mathlib.Core.Bool.{Bool}
 use Prim.Native.Nat.{ℕ}
 use lib.Dec.{leb}
 use lib.ListN.{getD}

@@ -11,7 +11,7 @@ use Rattle.requests.specs.Requests.{decide}
 use Rattle.requests.proofs.Decided.{every-request}
 use Rattle.reading.proofs.Theorems.{refused-within}
 use Rattle.parts.proofs.Laws.{found-inside}
-use Rattle.answers.specs.Answers.{Fields, packed, apart, ofFile, ofPart}
+use Rattle.answers.specs.Answers.{Fields, apart}
 use Rattle.entries.specs.Entries.{CheckOf, RequestOf, ListOf, QuestionOf, TableOf}
 use Rattle.entries.specs.Outcomes.{checkGives, requestGives, listingGives, questionGives, tableGives}
 use Rattle.entries.proofs.Ends as ends

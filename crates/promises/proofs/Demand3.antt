@@ -1,6 +1,6 @@
 -- Demand 3. Assumes nothing.
 use Prim.Native.Nat.{ℕ, _+_, _*_, _≤_, _<_}
-use mathlib.Core.Path.{_≡_, refl, sym, ap, _∙_, subst}
+use mathlib.Core.Path.{_≡_, sym, ap, _∙_}
 use mathlib.Core.Logic.{_⊎_}
 use mathlib.Core.Bool.{true}
 use mathlib.Core.List.{List}
@@ -14,7 +14,6 @@ use Rattle.policy.specs.declared.Policy.{Policy}
 use Rattle.policy.specs.Good.{Good}
 use Rattle.hierarchy.specs.Rules.{site}
 use Rattle.safety.proofs.Hierarchy.{Kept}
-use Rattle.requests.specs.declared.Request.{Request}
 use Rattle.requests.specs.Requests.{decide}
 use Rattle.requests.specs.Examples.{ask}
 use Rattle.requests.proofs.Decided.{every-request}

@@ -1,14 +1,13 @@
 -- Every P case of document 01 is right: outcome, number and the whole policy after, computed.
 -- Assumes nothing.
 use mathlib.Core.Path.{_≡_, refl}
-use mathlib.Core.List.{List, [], _∷_, map}
+use mathlib.Core.List.{map}
 use Rattle.sets.specs.Tests.{_and_, _or_, neg, _implies_, _iff_}
 use Rattle.sets.specs.Sets.{has, all, any, count, least, setOf, lowestFree, size}
 use Rattle.order.specs.Order.{senior, atLeast, reaches, reached, comparable, edge, tabFrom, relate}
 use Rattle.order.specs.Effects.{created, removed, inserted, cut, create, remove, insert, cutEdge}
 use Rattle.ranges.specs.Ranges.{inside, inRange, encapsulated, overlapInPart}
 use Rattle.ranges.specs.Rows.{within, lowNotJunior, notEncapsulated, overlap, unsound}
-use Rattle.policy.specs.declared.Answer.{Answer}
 use Rattle.policy.specs.Outcome.{first, answer}
 use Rattle.members.specs.Rules.{userView, permissionView, covers, satisfied, unknown, covered, granted, assignRules, revokeRules, withRole, withoutRole, assignUser, revokeUser, assignPermission, revokePermission}
 use Rattle.hierarchy.specs.Rules.{site, createIn, edgeIn, rowAllows, mayModify, unknownRole, unknownPair, full, newRole, spoils, rowNames, tableNames, rangesName, named, someIn, createRules, deleteRules, insertRules, cutRules, createRole, deleteRole, insertEdge, deleteEdge}

@@ -1,7 +1,7 @@
 -- What every request gives, of every kind: its outcome is the first refusal that holds, a number that its kind may give; a refusal leaves the
 -- policy; and a good policy stays good, so that every policy that is reached from a good one is good.
 -- Assumes nothing.
-use mathlib.Core.Path.{_≡_, refl, sym, ap, _∙_}
+use mathlib.Core.Path.{_≡_, refl, ap, _∙_}
 use mathlib.Core.Bool.{Bool, true, false}
 use mathlib.Core.List.{List, [], _∷_}
 use Prim.Native.Nat.{ℕ, zero, suc, _≤_}

@@ -1,7 +1,7 @@
 -- Demand 3's second half, for every request of kinds 5 to 8: where it is accepted on a good policy the order stays strict, every range stays sound,
 -- and two roles present before and after keep their dominance unless both lie strictly inside one range that this officer may modify.
 -- Assumes nothing.
-use mathlib.Core.Path.{_≡_, refl, sym, ap, _∙_, subst}
+use mathlib.Core.Path.{_≡_, sym, ap, _∙_, subst}
 use Prim.Native.Nat.{ℕ}
 use Rattle.order.specs.declared.Order.{Order}
 use Rattle.policy.specs.declared.Policy.{Policy}
@@ -16,7 +16,6 @@ use Rattle.safety.proofs.Hierarchy.{Kept, good-site, create-kept, remove-kept, 
 use Rattle.safety.proofs.Goodness.{ranges-free}
 use Rattle.requests.specs.declared.Request.{Request}
 use Rattle.requests.specs.Requests.{decide, rulesOf}
-use Rattle.requests.proofs.ByKind.{ofKind}
 use Rattle.requests.proofs.Decided.{every-request}
 
 -- the order after an accepted request that changes the order of roles alone

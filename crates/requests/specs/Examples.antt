@@ -8,7 +8,6 @@ use Rattle.ranges.specs.Rows.{noRow}
 use Rattle.policy.specs.declared.Policy.{Policy}
 use Rattle.policy.specs.declared.Members.{Members}
 use Rattle.policy.specs.declared.Row.{Row}
-use Rattle.policy.specs.declared.Table.{Table}
 use Rattle.policy.specs.Build.{emptyRow, emptyTable, emptyMembers}
 use Rattle.policy.specs.declared.Answer.{Answer}
 use Rattle.requests.specs.declared.Request.{Request}

@@ -1,6 +1,6 @@
 -- "A constant table says which numbers each kind may give: 1, 3: {2,3,4,5}; 2, 4: {2,3,5}; 5: {2,3,5,6,9}; 6: {1,2,3,7,8}; 7, 8: {2,3,5,9};
 -- an unknown kind: {1}. Besides these only acceptance, for kinds 1 to 8."
-use mathlib.Core.Bool.{Bool, true, false}
+use mathlib.Core.Bool.{Bool, false}
 use mathlib.Core.List.{List, [], _∷_}
 use Prim.Native.Nat.{ℕ}
 use lib.Dec.{eqb}

@@ -1,5 +1,5 @@
 -- All kinds. Document 01, "The eight requests": "A request is an officer (user number), a kind, and numbers a and b."
-use mathlib.Core.Bool.{Bool, true, false}
+use mathlib.Core.Bool.{true}
 use Prim.Native.Nat.{ℕ}
 use lib.Dec.{eqb}
 use Rattle.sets.specs.Tests.{_or_, pick}

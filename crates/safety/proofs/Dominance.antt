@@ -1,15 +1,15 @@
 -- Two roles present before and after an accepted request of kinds 5 to 8 keep their dominance unless both lie strictly inside one range that this
 -- officer may modify. Document 01, demand 3.
 -- Assumes nothing.
-use mathlib.Core.Path.{_≡_, refl, sym, ap, _∙_, subst}
-use mathlib.Core.Logic.{_⊎_, inl, inr, ⊎-elim}
+use mathlib.Core.Path.{_≡_, sym, ap, _∙_, subst}
+use mathlib.Core.Logic.{_⊎_, ⊎-elim}
 use mathlib.Core.Bool.{Bool, true, false}
-use Prim.Native.Nat.{ℕ, _<_, _^_}
+use Prim.Native.Nat.{ℕ}
 use lib.Dec.{eqb}
-use borrow.Author.Tests.{eqb-true, ne-eqb}
-use Rattle.sets.specs.Tests.{_and_, _or_, neg}
-use Rattle.sets.specs.Sets.{has, any}
-use Rattle.sets.proofs.Tests.{by-test, clash, not-so, and-i, and-l, and-r, and-true, or-false, or-l, or-r, or-cases, or-given, or-fails, neg-i, neg-e, and-fails-l, and-fails-r}
+use borrow.Author.Tests.{eqb-true}
+use Rattle.sets.specs.Tests.{_and_, _or_}
+use Rattle.sets.specs.Sets.{has}
+use Rattle.sets.proofs.Tests.{by-test, clash, not-so, and-i, and-l, and-r, and-true, or-false, or-l, or-cases, or-given, or-fails, neg-i, and-fails-l, and-fails-r}
 use Rattle.order.specs.Order.{Relation, atLeast, Strict, InUse}
 use Rattle.order.specs.Effects.{created, removed, inserted, cut}
 use Rattle.order.proofs.Relations.{over-least, least-over}

@@ -1,20 +1,19 @@
 -- A good policy stays good under kinds 5 to 8. Roles that go out of use are named by no row and have no members.
 -- Assumes nothing.
-use mathlib.Core.Path.{_≡_, refl, sym, ap, _∙_, subst}
+use mathlib.Core.Path.{_≡_, refl, _∙_, subst}
 use mathlib.Core.Bool.{Bool, true, false}
 use mathlib.Core.List.{List}
-use Prim.Native.Nat.{ℕ, _<_, _≤_, _^_}
+use Prim.Native.Nat.{ℕ, _<_, _^_}
 use lib.Dec.{eqb}
 use lib.ListN.{getD}
-use borrow.Author.Tests.{eqb-true, eq-eqb}
-use Rattle.sets.specs.Tests.{_and_, _or_, neg}
-use Rattle.sets.specs.Sets.{has, subset, any, setOf}
-use Rattle.sets.proofs.Tests.{by-test, clash, not-so, and-i, or-fails-l, or-fails-r, or-r, neg-i, eqb-sym}
+use borrow.Author.Tests.{eqb-true}
+use Rattle.sets.specs.Tests.{_or_}
+use Rattle.sets.specs.Sets.{has, subset}
+use Rattle.sets.proofs.Tests.{clash, not-so, and-i, or-fails-l, or-fails-r, or-r, neg-i, eqb-sym}
 use Rattle.sets.proofs.Digits.{has-below}
 use Rattle.sets.proofs.Quantifiers.{any-none}
 use Rattle.sets.proofs.Builders.{has-setOf, subset-at, subset-of}
 use Rattle.order.specs.declared.Order.{Order}
-use Rattle.order.specs.Order.{senior}
 use Rattle.order.specs.Effects.{create, remove, insert, cutEdge}
 use Rattle.ranges.specs.Rows.{rowAt}
 use Rattle.policy.specs.declared.Policy.{Policy}
@@ -22,10 +21,9 @@ use Rattle.policy.specs.declared.Members.{Members}
 use Rattle.policy.specs.declared.Row.{Row}
 use Rattle.policy.specs.declared.Table.{Table}
 use Rattle.policy.specs.Build.{emptyRow, withRoles}
-use Rattle.policy.specs.Good.{Good, Sizes, GoodSets, GoodRow, GoodTable, GoodRanges}
-use Rattle.policy.specs.Outcome.{first}
+use Rattle.policy.specs.Good.{Good, GoodSets, GoodTable}
 use Rattle.policy.proofs.Outcomes.{answer-policy}
-use Rattle.hierarchy.specs.Rules.{site, newRole, rowNames, tableNames, rangesName, named, someIn, createRules, deleteRules, insertRules, cutRules, createRole, deleteRole, insertEdge, deleteEdge}
+use Rattle.hierarchy.specs.Rules.{site, rowNames, tableNames, rangesName, named, someIn, createRole, deleteRole, insertEdge, deleteEdge}
 use Rattle.hierarchy.proofs.Accepted.{delete-ok}
 use Rattle.safety.proofs.Hierarchy.{Kept, good-site, create-kept, remove-kept, insert-kept, cut-kept}
 

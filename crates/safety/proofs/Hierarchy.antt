@@ -2,20 +2,19 @@
 -- and two roles present before and after keep their dominance unless both lie strictly inside one range that this officer may modify.
 -- Assumes nothing.
 use mathlib.Core.Path.{_≡_, refl, sym, ap, _∙_, subst}
-use mathlib.Core.Bool.{Bool, true, false}
-use mathlib.Core.List.{List}
-use Prim.Native.Nat.{ℕ, _<_, _≤_, _^_}
+use mathlib.Core.Bool.{true, false}
+use Prim.Native.Nat.{ℕ, _<_}
 use lib.Dec.{eqb}
-use borrow.Author.Tests.{eqb-true, eqb-false, eq-eqb, ne-eqb}
-use Rattle.sets.specs.Tests.{_and_, _or_, neg, pick}
-use Rattle.sets.specs.Sets.{has, any, setOf, lowestFree}
-use Rattle.sets.proofs.Tests.{by-test, clash, not-so, and-i, and-l, and-r, or-fails-l, or-fails-r, neg-i, neg-e, eqb-sym}
+use borrow.Author.Tests.{eqb-true}
+use Rattle.sets.specs.Tests.{_and_, neg}
+use Rattle.sets.specs.Sets.{has, setOf, lowestFree}
+use Rattle.sets.proofs.Tests.{clash, not-so, and-i, and-l, and-r, or-fails-l, or-fails-r, neg-i, neg-e, eqb-sym}
 use Rattle.sets.proofs.Digits.{has-below}
-use Rattle.sets.proofs.Quantifiers.{any-at, any-of, any-none, lowest-free}
+use Rattle.sets.proofs.Quantifiers.{any-at, any-none, lowest-free}
 use Rattle.sets.proofs.Builders.{has-setOf, in-setOf}
 use Rattle.order.specs.declared.Order.{Order}
-use Rattle.order.specs.Order.{Relation, senior, Strict, InUse, relate}
-use Rattle.order.specs.Effects.{created, removed, inserted, cut, create, remove, insert, cutEdge}
+use Rattle.order.specs.Order.{Relation, senior, relate}
+use Rattle.order.specs.Effects.{removed, create, remove, insert, cutEdge}
 use Rattle.order.proofs.Lists.{length-relate, rows-relate, senior-relate, same-relate}
 use Rattle.order.proofs.Relations.{remove-used}
 use Rattle.order.proofs.Keep as keep
@@ -27,8 +26,8 @@ use Rattle.policy.specs.declared.Policy.{Policy}
 use Rattle.policy.specs.Good.{Good, GoodOrder}
 use Rattle.policy.specs.Outcome.{first}
 use Rattle.hierarchy.specs.declared.Site.{Site}
-use Rattle.hierarchy.specs.Rules.{site, over, edgeIn, rowAllows, mayModify, newRole, full, spoils, rangesName, createRules, deleteRules, insertRules, cutRules}
-use Rattle.hierarchy.proofs.Accepted.{create-ok, delete-ok, insert-ok, cut-ok, create-fits}
+use Rattle.hierarchy.specs.Rules.{site, over, edgeIn, rowAllows, mayModify, newRole, spoils, rangesName, createRules, insertRules, cutRules}
+use Rattle.hierarchy.proofs.Accepted.{create-ok, insert-ok, cut-ok, create-fits}
 use Rattle.hierarchy.proofs.Laws.{known-first, known-second}
 use Rattle.safety.specs.Dominance.{mayChange}
 use Rattle.safety.proofs.Dominance as dominance

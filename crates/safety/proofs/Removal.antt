@@ -1,13 +1,13 @@
 -- Kind 6 has no number 9: where a is an end of no row, every range stays sound when a is removed.
 -- Assumes nothing.
-use mathlib.Core.Path.{_≡_, refl, sym, ap, ap₂, _∙_, subst}
+use mathlib.Core.Path.{_≡_, sym, ap, ap₂, _∙_}
 use mathlib.Core.Bool.{Bool, true, false}
 use mathlib.Core.List.{List}
 use Prim.Native.Nat.{ℕ, _<_}
 use lib.Dec.{eqb}
 use Rattle.sets.specs.Tests.{_and_, _or_, neg}
-use Rattle.sets.specs.Sets.{has, any}
-use Rattle.sets.proofs.Tests.{by-test, clash, not-so, and-i, and-l, and-r, or-fails-l, neg-i, neg-e}
+use Rattle.sets.specs.Sets.{has}
+use Rattle.sets.proofs.Tests.{clash, not-so, and-i, and-l, and-r, or-fails-l, neg-i, neg-e}
 use Rattle.sets.proofs.Quantifiers.{any-of, any-at}
 use Rattle.order.specs.Order.{Relation, atLeast}
 use Rattle.order.specs.Effects.{removed}

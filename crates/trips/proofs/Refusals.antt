@@ -11,7 +11,7 @@ use lib.ListN.{length}
 use Rattle.sets.specs.Tests.{_and_, _or_, neg, pick}
 use Rattle.policy.specs.declared.Orders.{Orders}
 use Rattle.policy.specs.declared.Ranges.{Ranges}
-use Rattle.policy.specs.Outcome.{Refusals, accept, refuse, first}
+use Rattle.policy.specs.Outcome.{Refusals, accept, refuse}
 use Rattle.policy.proofs.FirstLaws.{names as has-number, distinct, leads, first-leads}
 use Rattle.number.specs.Run.{Step, go, stop, onStep}
 use Rattle.faults.specs.Faults.{notStrict, someLow, someOpen, twoOverlap, fault}

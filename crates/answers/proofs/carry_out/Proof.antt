@@ -1,15 +1,8 @@
 -- Assumes nothing.
-use mathlib.Core.Path.{sym, _∙_, ap}
-use native.Mathlib.Omega.{arith}
 use Rattle.answers.proofs.Laws.{refused-carried, written-carried, written-fits}
 use borrow.Author.Needs.{needs}
 use Rattle.answers.proofs.carry_out.Statement.{statement}
 use Rattle.answers.proofs.carry_out.Tie as tie
-use Rattle.answers.proofs.carry_out.Reads as reads
-use Rattle.answers.proofs.carry_out.Lts as lts
-use Rattle.answers.proofs.of_written.Reads as of-written-reads
-use Rattle.answers.proofs.pack.Reads as pack-reads
-use Rattle.writing.proofs.write_policy.Reads as write-policy-reads
 
 pack-requires : tie.Need-pack-requires
 pack-requires c κs = search needs

@@ -5,9 +5,6 @@ use Rattle.answers.specs.Answers.{packed, ofFile}
 use borrow.Author.Needs.{needs}
 use Rattle.answers.proofs.of_file.Statement.{statement}
 use Rattle.answers.proofs.of_file.Tie as tie
-use Rattle.answers.proofs.of_file.Reads as reads
-use Rattle.answers.proofs.of_file.Lts as lts
-use Rattle.answers.proofs.pack.Reads as pack-reads
 
 enum-told : tie.Need-enum-told
 enum-told c = search needs

@@ -6,9 +6,6 @@ use Rattle.listing.specs.Listing.{listedOutcome, listedCount}
 use borrow.Author.Needs.{needs}
 use Rattle.answers.proofs.of_listed.Statement.{statement}
 use Rattle.answers.proofs.of_listed.Tie as tie
-use Rattle.answers.proofs.of_listed.Reads as reads
-use Rattle.answers.proofs.of_listed.Lts as lts
-use Rattle.answers.proofs.pack.Reads as pack-reads
 
 enum-told : tie.Need-enum-told
 enum-told c = search needs

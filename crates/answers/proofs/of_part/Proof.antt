@@ -5,9 +5,6 @@ use Rattle.answers.specs.Answers.{packed, ofPart}
 use borrow.Author.Needs.{needs}
 use Rattle.answers.proofs.of_part.Statement.{statement}
 use Rattle.answers.proofs.of_part.Tie as tie
-use Rattle.answers.proofs.of_part.Reads as reads
-use Rattle.answers.proofs.of_part.Lts as lts
-use Rattle.answers.proofs.pack.Reads as pack-reads
 
 enum-known-part : tie.Need-enum-known-part
 enum-known-part c = search needs

@@ -5,9 +5,6 @@ use Rattle.answers.specs.Answers.{packed, ofReply}
 use borrow.Author.Needs.{needs}
 use Rattle.answers.proofs.of_reply.Statement.{statement}
 use Rattle.answers.proofs.of_reply.Tie as tie
-use Rattle.answers.proofs.of_reply.Reads as reads
-use Rattle.answers.proofs.of_reply.Lts as lts
-use Rattle.answers.proofs.pack.Reads as pack-reads
 
 enum-told : tie.Need-enum-told
 enum-told c = search needs

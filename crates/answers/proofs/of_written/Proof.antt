@@ -6,9 +6,6 @@ use Rattle.writing.specs.Writing.{writtenOutcome, writtenLength}
 use borrow.Author.Needs.{needs}
 use Rattle.answers.proofs.of_written.Statement.{statement}
 use Rattle.answers.proofs.of_written.Tie as tie
-use Rattle.answers.proofs.of_written.Reads as reads
-use Rattle.answers.proofs.of_written.Lts as lts
-use Rattle.answers.proofs.pack.Reads as pack-reads
 
 enum-told : tie.Need-enum-told
 enum-told c = search needs

@@ -4,8 +4,6 @@ use mathlib.Core.Path.{refl}
 use borrow.Author.Needs.{needs}
 use Rattle.answers.proofs.pack.Statement.{statement}
 use Rattle.answers.proofs.pack.Tie as tie
-use Rattle.answers.proofs.pack.Reads as reads
-use Rattle.answers.proofs.pack.Lts as lts
 
 mul-result : tie.Need-mul-result
 mul-result c = search needs

@@ -3,10 +3,6 @@ use Rattle.entries.proofs.Laws.{file-fits, checked}
 use borrow.Author.Needs.{needs}
 use Rattle.entries.proofs.aestilumne_check.Statement.{statement}
 use Rattle.entries.proofs.aestilumne_check.Tie as tie
-use Rattle.entries.proofs.aestilumne_check.Reads as reads
-use Rattle.entries.proofs.aestilumne_check.Lts as lts
-use Rattle.answers.proofs.of_file.Reads as of-file-reads
-use Rattle.reading.proofs.read_policy.Reads as read-policy-reads
 
 read-policy-requires : tie.Need-read-policy-requires
 read-policy-requires c κs = search needs

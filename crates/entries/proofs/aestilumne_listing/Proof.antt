@@ -3,12 +3,6 @@ use Rattle.entries.proofs.Laws.{file-fits, bad-listing, loaded-good, li
 use borrow.Author.Needs.{needs}
 use Rattle.entries.proofs.aestilumne_listing.Statement.{statement}
 use Rattle.entries.proofs.aestilumne_listing.Tie as tie
-use Rattle.entries.proofs.aestilumne_listing.Reads as reads
-use Rattle.entries.proofs.aestilumne_listing.Lts as lts
-use Rattle.answers.proofs.of_file.Reads as of-file-reads
-use Rattle.answers.proofs.of_listed.Reads as of-listed-reads
-use Rattle.listing.proofs.list.Reads as list-reads
-use Rattle.reading.proofs.read_policy.Reads as read-policy-reads
 
 read-policy-requires : tie.Need-read-policy-requires
 read-policy-requires c κs = search needs

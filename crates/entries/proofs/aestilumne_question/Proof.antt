@@ -3,12 +3,6 @@ use Rattle.entries.proofs.Laws.{file-fits, bad-question, good-question}
 use borrow.Author.Needs.{needs}
 use Rattle.entries.proofs.aestilumne_question.Statement.{statement}
 use Rattle.entries.proofs.aestilumne_question.Tie as tie
-use Rattle.entries.proofs.aestilumne_question.Reads as reads
-use Rattle.entries.proofs.aestilumne_question.Lts as lts
-use Rattle.answers.proofs.of_file.Reads as of-file-reads
-use Rattle.answers.proofs.of_reply.Reads as of-reply-reads
-use Rattle.policy.proofs.question.Reads as question-reads
-use Rattle.reading.proofs.read_policy.Reads as read-policy-reads
 
 read-policy-requires : tie.Need-read-policy-requires
 read-policy-requires c κs = search needs

@@ -3,12 +3,6 @@ use Rattle.entries.proofs.Laws.{file-fits, bad-request, loaded-good, re
 use borrow.Author.Needs.{needs}
 use Rattle.entries.proofs.aestilumne_request.Statement.{statement}
 use Rattle.entries.proofs.aestilumne_request.Tie as tie
-use Rattle.entries.proofs.aestilumne_request.Reads as reads
-use Rattle.entries.proofs.aestilumne_request.Lts as lts
-use Rattle.answers.proofs.carry_out.Reads as carry-out-reads
-use Rattle.answers.proofs.of_file.Reads as of-file-reads
-use Rattle.reading.proofs.read_policy.Reads as read-policy-reads
-use Rattle.requests.proofs.decide.Reads as decide-reads
 
 read-policy-requires : tie.Need-read-policy-requires
 read-policy-requires c κs = search needs

@@ -3,10 +3,6 @@ use Rattle.entries.proofs.Laws.{part-fits, part-answered}
 use borrow.Author.Needs.{needs}
 use Rattle.entries.proofs.aestilumne_table.Statement.{statement}
 use Rattle.entries.proofs.aestilumne_table.Tie as tie
-use Rattle.entries.proofs.aestilumne_table.Reads as reads
-use Rattle.entries.proofs.aestilumne_table.Lts as lts
-use Rattle.answers.proofs.of_part.Reads as of-part-reads
-use Rattle.parts.proofs.find_part.Reads as find-part-reads
 
 find-part-requires : tie.Need-find-part-requires
 find-part-requires c κs = search needs

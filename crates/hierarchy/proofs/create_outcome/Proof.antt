@@ -1,4 +1,4 @@
-use mathlib.Core.Path.{sym, ap, _∙_}
+use mathlib.Core.Path.{sym, _∙_}
 use borrow.Author.Tests.{not-true, not-false, eq-eqb, ne-eqb}
 use Rattle.sets.proofs.Tests.{neg-i, neg-fails}
 use Rattle.policy.proofs.Outcomes.{first-here, first-next, first-none}

@@ -1,5 +1,5 @@
 use mathlib.Core.Path.{sym, ap, _∙_}
-use borrow.Author.Tests.{not-true, not-false, eq-eqb, ne-eqb}
+use borrow.Author.Tests.{not-true, not-false}
 use Rattle.sets.proofs.Tests.{neg-i, neg-fails}
 use Rattle.policy.proofs.Outcomes.{first-here, first-next, first-none}
 use Rattle.hierarchy.specs.Rules.{insertRules, spoils}

@@ -1,5 +1,5 @@
 use mathlib.Core.Path.{_≡_, sym, _∙_}
-use Prim.Native.Nat.{ℕ, _≤_, _-_}
+use Prim.Native.Nat.{_≤_, _-_}
 use Rattle.sets.proofs.Loops.{None, none-begin, none-turn, found-any, none-any}
 use lib.ListN.{getD}
 use Rattle.policy.specs.Build.{emptyRow}

@@ -1,8 +1,7 @@
-use mathlib.Core.Path.{_≡_, sym, refl, _∙_}
+use mathlib.Core.Path.{sym, _∙_}
 use mathlib.Core.Logic.{⊎-elim}
-use Prim.Native.Nat.{ℕ, _≤_, _-_}
+use Prim.Native.Nat.{_-_}
 use native.Mathlib.Omega.{arith}
-use lib.ListN.{length}
 use Rattle.listing.specs.Listing.{inRows, places, entriesOf}
 use Rattle.number.proofs.Puts.{Putting, put-none, put-over}
 use Rattle.listing.proofs.Laws.{wanted, put-fits, put-one, put-skip}

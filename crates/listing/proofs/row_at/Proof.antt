@@ -1,4 +1,3 @@
-use mathlib.Core.Path.{_∙_}
 use Rattle.hierarchy.proofs.Accepted.{site-size}
 use Rattle.listing.proofs.Laws.{row-site, row-delete}
 use borrow.Author.Needs.{needs}

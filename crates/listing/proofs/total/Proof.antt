@@ -1,6 +1,6 @@
-use Prim.Native.Nat.{_+_, ℕ, _≤_, _*_, _-_}
-use mathlib.Core.Path.{ap, _≡_, sym, _∙_}
-use Rattle.listing.specs.Listing.{places, inRows}
+use Prim.Native.Nat.{_+_, _≤_, _*_, _-_}
+use mathlib.Core.Path.{_≡_}
+use Rattle.listing.specs.Listing.{inRows}
 use Rattle.listing.proofs.Laws.{total-none, total-end, total-turn}
 use native.Mathlib.Omega.{arith}
 use Rattle.sets.specs.Sets.{count}

@@ -1,6 +1,5 @@
-use mathlib.Core.Path.{_≡_, sym, _∙_}
 use mathlib.Core.Logic.{⊎-elim}
-use Prim.Native.Nat.{ℕ, _≤_, _-_}
+use Prim.Native.Nat.{_≤_, _-_}
 use Rattle.sets.specs.Tests.{_and_}
 use Rattle.sets.specs.Sets.{has}
 use Rattle.sets.proofs.Tests.{and-i, and-fails-l, and-fails-r}
