@@ -10,6 +10,7 @@
 #include <string.h>
 
 #include "../include/aestilumne.h"
+#include "known.h"
 #include "lent.h"
 #include "random.h"
 #include "reference.h"
@@ -442,6 +443,27 @@ static unsigned long argument(int argc, char **argv, int which, unsigned long ot
     return which < argc ? strtoul(argv[which], NULL, 10) : otherwise;
 }
 
+/* The policies of document 01 and the largest one: the file, and every user's listing. */
+static void run_known(struct run *t)
+{
+    static struct policy known[3];
+    uint8_t file[FILE_ENOUGH];
+    known_department(&known[0]);
+    known_chain(&known[1], ROLES);
+    known_largest(&known[2]);
+    for (unsigned i = 0; i < 3; i++) {
+        size_t n = ref_write(&known[i], file, sizeof file).length;
+        compare(t, call_of(CHECK, file, n));
+        for (unsigned user = 0; user < 4; user++) {
+            struct call c = call_of(LISTING, file, n);
+            c.q.officer = user;
+            compare_sizes(t, c, LISTING_ENOUGH, 3);
+        }
+    }
+    compare(t, call_of(CHECK, known_example, KNOWN_EXAMPLE_LENGTH));
+    compare_sizes(t, call_of(LISTING, known_example, KNOWN_EXAMPLE_LENGTH), LISTING_ENOUGH, 3);
+}
+
 int main(int argc, char **argv)
 {
     static struct run t;
@@ -457,6 +479,7 @@ int main(int argc, char **argv)
         return 1;
     }
     lent_report_touching();
+    run_known(&t);
     run_requests(&t, argument(argc, argv, first + 1, 20000));
     run_listings(&t, argument(argc, argv, first + 2, 1000));
     run_damaged(&t, argument(argc, argv, first + 3, 20000));
