@@ -1,7 +1,7 @@
 /*
  * Writes the vector files, from a fixed seed, so that they are the same each time.
  *
- * make_vectors FOLDER       files.bin, requests.bin and listings.bin
+ * make_vectors FOLDER       files.bin, requests.bin, listings.bin and tables.bin
  * make_vectors -F FOLDER    F.policy, the bytes of policy F
  *
  * Numbers in the records have their lowest byte first. Buffers were of 10,375 bytes for
@@ -15,7 +15,7 @@
 #include "reference.h"
 
 enum { SEED = 2026, OUTCOMES = 28, KINDS = 8, EACH_PAIR = 12 };
-enum { FILES_MOST = 150000, REQUESTS_MOST = 150000, LISTINGS_MOST = 60000 };
+enum { FILES_MOST = 150000, REQUESTS_MOST = 150000, LISTINGS_MOST = 60000, TABLES_MOST = 60000 };
 
 struct vectors {
     FILE *out;
@@ -77,6 +77,17 @@ static void put_listing(struct vectors *v, const uint8_t *file, size_t n, uint64
     put_bytes(v, file, n);
     put_bytes(v, out, 3 * r.length);
     v->reached[0][r.outcome]++;
+    v->records++;
+}
+
+static void put_table(struct vectors *v, const uint8_t *file, size_t n, uint64_t table)
+{
+    uint64_t answer = ref_table(file, n, table);
+    put_number(v, n, 2);
+    put_number(v, table, 8);
+    put_number(v, answer, 8);
+    put_bytes(v, file, n);
+    v->reached[0][ref_unpack(answer).outcome]++;
     v->records++;
 }
 
@@ -219,6 +230,84 @@ static void put_largest(struct vectors *v)
     put_file(v, file, n + 8); /* 20 */
 }
 
+/* First, middle and last. */
+static const unsigned three_roles[] = {0, 31, ROLES - 1};
+static const unsigned three_admins[] = {0, 7, ADMINS - 1};
+static const unsigned three_rows[] = {0, 31, ROWS - 1};
+
+/* 23: a role above itself, a pair that follows and is missing; the same for administrative ones. */
+static void put_not_strict(struct vectors *v)
+{
+    struct policy p, chain;
+    known_chain(&chain, ROLES);
+    for (unsigned admin = 0; admin < ADMINS; admin++) {
+        chain.admins.in_use[admin] = true;
+        for (unsigned junior = 0; junior < admin; junior++)
+            chain.admins.senior[admin][junior] = true;
+    }
+    put_policy(v, &chain);
+    for (unsigned i = 0; i < 3; i++) {
+        p = chain;
+        p.roles.senior[three_roles[i]][three_roles[i]] = true;
+        put_policy(v, &p);
+        p = chain;
+        p.admins.senior[three_admins[i]][three_admins[i]] = true;
+        put_policy(v, &p);
+        p = chain;
+        p.roles.senior[ROLES - 1][three_roles[i] % (ROLES - 2)] = false;
+        put_policy(v, &p);
+        p = chain;
+        p.admins.senior[ADMINS - 1][three_admins[i] % (ADMINS - 2)] = false;
+        put_policy(v, &p);
+    }
+}
+
+/* Roles 0 < 1 < .. < 62, and 63 above 30 alone; 64 rows of empty ranges. */
+static void many_ranges(struct policy *p)
+{
+    known_chain(p, ROLES - 1);
+    p->roles.in_use[ROLES - 1] = true;
+    for (unsigned role = 0; role <= 30; role++)
+        p->roles.senior[ROLES - 1][role] = true;
+    for (unsigned row = 0; row < ROWS; row++)
+        add_range(p, 0, 0, 1);
+}
+
+static void set_range(struct policy *p, unsigned row, unsigned low, unsigned high)
+{
+    p->tables[CAN_MODIFY].rows[row].low = low;
+    p->tables[CAN_MODIFY].rows[row].high = high;
+}
+
+static void put_with_range(struct vectors *v, const struct policy *p, unsigned row, unsigned low,
+                           unsigned high)
+{
+    struct policy changed = *p;
+    set_range(&changed, row, low, high);
+    put_policy(v, &changed);
+}
+
+/* 24, 25 and 26, each in the first, a middle and the last row; 24 wins over an earlier 25. */
+static void put_unsound_ranges(struct vectors *v)
+{
+    struct policy p;
+    for (unsigned i = 0; i < 3; i++) {
+        many_ranges(&p);
+        put_policy(v, &p);
+        put_with_range(v, &p, three_rows[i], 40, 40);
+        put_with_range(v, &p, three_rows[i], 41, 40);
+        put_with_range(v, &p, three_rows[i], 40, ROLES - 1);
+        put_with_range(v, &p, three_rows[i], 29, 31);
+        set_range(&p, three_rows[i], 40, 50);
+        put_with_range(v, &p, (three_rows[i] + 1) % ROWS, 45, 55);
+        put_with_range(v, &p, (three_rows[i] + 32) % ROWS, 35, 45);
+        put_with_range(v, &p, (three_rows[i] + 1) % ROWS, 42, 48);
+        put_with_range(v, &p, (three_rows[i] + 1) % ROWS, 29, 31);
+        set_range(&p, ROWS / 2, 29, 31);
+        put_with_range(v, &p, ROWS - 2, 50, 50);
+    }
+}
+
 static void put_spoiled_policies(struct vectors *v, struct dice *d)
 {
     static void (*const spoil[])(struct dice *, struct policy *) = {
@@ -273,6 +362,8 @@ static void make_files(struct vectors *v)
     put_ten_bytes(v);
     put_all_damage(v);
     put_largest(v);
+    put_not_strict(v);
+    put_unsound_ranges(v);
     put_spoiled_policies(v, &d);
     put_good_policies(v, &d);
     put_damaged_files(v, &d, FILES_MOST - 10000);
@@ -410,6 +501,55 @@ static void make_listings(struct vectors *v)
     put_random_listings(v, &d, LISTINGS_MOST - 8000);
 }
 
+/* ---- tables.bin ---- */
+
+static void put_tables(struct vectors *v, const uint8_t *file, size_t n)
+{
+    for (uint64_t table = 1; table <= TABLES; table++)
+        put_table(v, file, n, table);
+}
+
+static void put_policy_tables(struct vectors *v, const struct policy *p)
+{
+    uint8_t file[FILE_ENOUGH];
+    put_tables(v, file, ref_write(p, file, sizeof file).length);
+}
+
+/* A table number not 1 to 5 gives 1 before a bad file its own refusal. */
+static void put_bad_tables(struct vectors *v)
+{
+    uint8_t file[KNOWN_EXAMPLE_LENGTH + 1] = {0};
+    memcpy(file, known_example, sizeof known_example);
+    for (unsigned n = 0; n <= sizeof file; n += 7) {
+        put_table(v, file, n, 0);
+        put_table(v, file, n, TABLES + 1);
+        put_table(v, file, n, UINT64_MAX);
+        put_tables(v, file, n);
+    }
+    file[19] = 4;
+    put_tables(v, file, KNOWN_EXAMPLE_LENGTH);
+    file[19] = 0;
+    put_tables(v, file, KNOWN_EXAMPLE_LENGTH);
+}
+
+static void make_tables(struct vectors *v)
+{
+    struct dice d = dice_from(SEED);
+    struct policy p;
+    put_tables(v, known_example, sizeof known_example);
+    put_table(v, known_example, sizeof known_example, 0);
+    put_table(v, known_example, sizeof known_example, TABLES + 1);
+    put_bad_tables(v);
+    known_department(&p);
+    put_policy_tables(v, &p);
+    every_section(&p);
+    put_policy_tables(v, &p);
+    while (v->size < TABLES_MOST / 2) {
+        random_policy(&d, chance(&d, 30) ? TINY : SMALL, &p);
+        put_policy_tables(v, &p);
+    }
+}
+
 /* ---- Files in a folder ---- */
 
 static FILE *open_in(const char *folder, const char *name)
@@ -462,7 +602,8 @@ static bool make_all(const char *folder)
     return make(folder, "files.bin", FILES_MOST, make_files, &v) && all_refusals_reached(&v) &&
            make(folder, "requests.bin", REQUESTS_MOST, make_requests, &v) &&
            all_pairs_reached(&v) &&
-           make(folder, "listings.bin", LISTINGS_MOST, make_listings, &v);
+           make(folder, "listings.bin", LISTINGS_MOST, make_listings, &v) &&
+           make(folder, "tables.bin", TABLES_MOST, make_tables, &v);
 }
 
 static void department_bytes(struct vectors *v)

@@ -1,20 +1,14 @@
 -- A field by how many digits it has, and bytes stored one after the other.
 -- Assumes nothing.
-use Prim.Native.Nat.{ℕ, _+_, _*_, _/_, _%_, _<_, _≤_}
-use mathlib.Core.Bool.{Bool, true, false}
+use Prim.Native.Nat.{ℕ, _+_, _/_, _%_, _<_, _≤_}
 use mathlib.Core.Path.{_≡_, refl, ap}
 use mathlib.Core.Logic.{⊎-elim}
 use mathlib.Core.List.{List, [], _∷_}
 use native.Mathlib.Omega.{arith}
 use native.Mathlib.Numerals.{add-one, add-two, add-three}
-use borrow.Author.Tests.{lt-ltb, le-ltb, ltb-false}
-use lib.Dec.{leb, ltb}
+use borrow.Author.Tests.{lt-ltb, le-ltb}
 use lib.ListN.{length, set}
-use Rattle.sets.specs.Tests.{pick}
 use Rattle.sets.proofs.Digits.{lt-or-le}
-use Rattle.policy.specs.declared.Policy.{Policy}
-use Rattle.listing.specs.declared.Listed.the-variants.{Unknown, Short, Entries}
-use Rattle.listing.specs.Listing.{entryCount, listed}
 use Rattle.writers.specs.Writers.{Wrote}
 use Rattle.list.specs.Lines.{decimal, field}
 
@@ -50,13 +44,3 @@ module _ (o : List ℕ) (at a b : ℕ) where
   pub wrote-four : (c d : ℕ)
       → Wrote (a ∷ b ∷ c ∷ d ∷ []) at o (at + 4) (set (set (set (set o at a) (at + 1) b) (at + 2) c) (at + 3) d)
   wrote-four c d = record { place = refl; bytes = rw (add-one, add-two, add-three) }
-
--- a listing's entries fit the buffer
-pub entries-fit : (p : Policy) (o room : ℕ) {n : ℕ} → listed p o room ≡ Entries n → 3 * n ≤ room
-unfolding listed
-entries-fit p o room {n} = by (leb (p .people .users .count) o) (ltb room (3 * entryCount p o)) refl
-  where
-    by : (s t : Bool) → ltb room (3 * entryCount p o) ≡ t → pick s Unknown (pick t Short (Entries (entryCount p o))) ≡ Entries n → 3 * n ≤ room
-    by true t q e = absurd (let z : _≡_ {A = ℕ} 0 1 = cc in omega arith)
-    by false true q e = absurd (let z : _≡_ {A = ℕ} 0 1 = cc in omega arith)
-    by false false q e = let k : entryCount p o ≡ n = cc in omega (arith, ltb-false room (3 * entryCount p o) q)

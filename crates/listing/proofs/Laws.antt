@@ -6,9 +6,9 @@ use mathlib.Core.List.{List, [], _++_}
 use Prim.Native.Nat.{ℕ, zero, suc, _+_, _*_, _/_, _%_, _<_, _≤_}
 use native.Mathlib.Nat.{add-zero, zero-add}
 use native.Mathlib.Omega.{arith}
-use lib.Dec.{eqb, lit<}
+use lib.Dec.{eqb, leb, ltb, lit<}
 use lib.ListN.{length, getD, length-append}
-use borrow.Author.Tests.{eq-eqb, ne-eqb, eqb-true, eqb-false, le-leb, lt-leb, lt-ltb, le-ltb}
+use borrow.Author.Tests.{eq-eqb, ne-eqb, eqb-true, eqb-false, le-leb, lt-leb, lt-ltb, le-ltb, ltb-false}
 use Rattle.sets.specs.Tests.{_and_, _or_, pick}
 use Rattle.sets.specs.Sets.{has, count, setOf, size}
 use Rattle.sets.proofs.Tests.{by-test, and-given, and-fails-l, neg-i}
@@ -220,3 +220,13 @@ module _ (p : Policy) (o : ℕ) (out : List ℕ) where
     list-entries h d =
         let k = rw counted at h in
         record { is = rw (lt-leb _ _ l, le-ltb _ _ k, counted); bytes = rw (lt-leb _ _ l, le-ltb _ _ k) (d ∙ ap (sets out 0) bytes-are) }
+
+-- the entries that a listing gives fit the buffer
+pub entries-fit : (p : Policy) (o room : ℕ) {n : ℕ} → listed p o room ≡ Entries n → 3 * n ≤ room
+unfolding listed
+entries-fit p o room {n} = by (leb (p .people .users .count) o) (ltb room (3 * entryCount p o)) refl
+  where
+    by : (s t : Bool) → ltb room (3 * entryCount p o) ≡ t → pick s Unknown (pick t Short (Entries (entryCount p o))) ≡ Entries n → 3 * n ≤ room
+    by true t q e = absurd (let z : _≡_ {A = ℕ} 0 1 = cc in omega arith)
+    by false true q e = absurd (let z : _≡_ {A = ℕ} 0 1 = cc in omega arith)
+    by false false q e = let k : entryCount p o ≡ n = cc in omega (arith, ltb-false room (3 * entryCount p o) q)

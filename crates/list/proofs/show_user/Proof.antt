@@ -1,7 +1,7 @@
 use mathlib.Core.Path.{sym, _∙_}
 use native.Mathlib.Omega.{arith}
 use lib.Seq.{length-take-le}
-use Rattle.list.proofs.Laws.{entries-fit}
+use Rattle.listing.proofs.Laws.{entries-fit}
 use borrow.Author.Needs.{needs}
 use Rattle.list.proofs.show_user.Statement.{statement}
 use Rattle.list.proofs.show_user.Tie as tie

@@ -1,0 +1,30 @@
+use Prim.Native.Nat.{_≤_, _-_}
+use lib.ListN.{length}
+use borrow.Author.Needs.{needs}
+use Rattle.vectors.proofs.run_all.Statement.{statement}
+use Rattle.vectors.proofs.run_all.Tie as tie
+
+abbrev Inv-loop : tie.InvT-loop
+Inv-loop which s tally₀ at₀ tally at = at ≤ length s
+
+abbrev μ-loop : tie.MeasureT-loop
+μ-loop which s tally₀ at₀ tally at = length s - at
+
+loop-holds : tie.Need-loop-holds Inv-loop μ-loop
+loop-holds c = search needs
+
+vector-at-requires : tie.Need-vector-at-requires Inv-loop μ-loop
+vector-at-requires c κs = search needs
+
+loop-less : tie.Need-loop-less Inv-loop μ-loop
+loop-less c = search needs
+
+loop-again : tie.Need-loop-again Inv-loop μ-loop
+loop-again c = search needs
+
+returns : tie.Need-returns Inv-loop μ-loop
+returns c = search needs
+
+pub run-all-spec : {M : Type 1} → statement M
+run-all-spec =
+    tie.close (tie.spec Inv-loop μ-loop loop-holds vector-at-requires loop-less loop-again returns)
