@@ -1,5 +1,5 @@
 -- Numbers of the data files' records, "lowest byte first".
-use Prim.Native.Nat.{ℕ, _+_, _*_}
+use Prim.Native.Nat.{ℕ, _+_, _*_, _<_, _≤_}
 use mathlib.Core.List.{List}
 use lib.ListN.{getD}
 
@@ -14,3 +14,11 @@ fourAt s at = twoAt s at + 65536 * twoAt s (at + 2)
 
 abbrev pub eightAt : List ℕ → ℕ → ℕ
 eightAt s at = fourAt s at + 4294967296 * fourAt s (at + 4)
+
+-- two parts that lie one after the other inside the input
+abbrev pub Inside : ℕ → ℕ → ℕ → ℕ → Type 0
+Inside start middle end all = (start ≤ middle) × (middle ≤ end) × (end ≤ all)
+
+-- a place further on, inside the input
+abbrev pub Onward : ℕ → ℕ → ℕ → Type 0
+Onward at end all = (at < end) × (end ≤ all)

@@ -1,7 +1,8 @@
 // Runs the vectors that the independent program of tests/ made, and prints how many agree for each outcome, and how many differ.
-ghost use Prim.Native.Nat.{_<_, _≤_};
+ghost use Prim.Native.Nat.{_<_};
 ghost use lib.ListN.{length};
 ghost use Rattle.io.specs.Counts.{Counts};
+ghost use Rattle.vectors.specs.Numbers.{Onward};
 
 mod agree;
 mod numbers;
@@ -13,27 +14,30 @@ use records::file_at;
 use records::listing_at;
 use records::request_at;
 use records::table_at;
+use show::show_counts;
 use show::show_differences;
-use show::show_files;
-use show::show_rows;
+use tally::Ran;
+use tally::note;
 
 // One vector of the data file with this number.
-fn vector_at(which: u64, s: &[u8], at: usize, tally: &mut [u64; 393]) -> usize
+fn run_at(which: u64, s: &[u8], at: usize) -> Ran
     requires { ⌜ at < length (now s) ⌝ }
-    ensures { λ r. ⌜ (at < r) × (r ≤ length (now (s .entry))) ⌝ }
+    ensures { λ r. ⌜ Onward at (r .end) (length (now (s .entry))) × (r .row < 12) ⌝ }
 {
     match which {
-        0 => file_at(s, at, tally),
-        1 => request_at(s, at, tally),
-        2 => listing_at(s, at, tally),
-        _ => table_at(s, at, tally),
+        0 => file_at(s, at),
+        1 => request_at(s, at),
+        2 => listing_at(s, at),
+        _ => table_at(s, at),
     }
 }
 
 fn run_all(which: u64, s: &[u8], tally: &mut [u64; 393]) {
     let mut at = 0;
     while at < s.len() {
-        at = vector_at(which, s, at, tally);
+        let v = run_at(which, s, at);
+        note(tally, v);
+        at = v.end;
     }
 }
 
@@ -60,7 +64,6 @@ fn main() {
     run_named(b"requests.bin", 1, &mut tally);
     run_named(b"listings.bin", 2, &mut tally);
     run_named(b"tables.bin", 3, &mut tally);
-    show_files(tally);
-    show_rows(tally);
+    show_counts(tally);
     show_differences(tally);
 }

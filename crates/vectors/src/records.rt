@@ -1,8 +1,8 @@
-// The records of the data files, as tests/README.md gives them. Each function runs the record at a place and gives the place past it; a record
-// that is cut short counts as a difference, and nothing follows it.
+// The records of the data files, as tests/README.md gives them. A record that is cut short does not agree, and nothing follows it.
 ghost use mathlib.Core.Path.{_≡_};
 ghost use Prim.Native.Nat.{_+_, _<_, _≤_};
 ghost use lib.ListN.{length};
+ghost use Rattle.vectors.specs.Numbers.{Inside, Onward};
 use crate::agree::file_agrees;
 use crate::agree::listing_agrees;
 use crate::agree::request_agrees;
@@ -10,40 +10,81 @@ use crate::agree::table_agrees;
 use crate::numbers::eight;
 use crate::numbers::two;
 use crate::numbers::wide;
-use crate::tally::note;
-use crate::tally::note_difference;
-use crate::tally::note_place;
+use crate::tally::Ran;
 use requests::Request;
 
-fn cut_short(s: &[u8], tally: &mut [u64; 393]) -> usize
-    ensures { λ r. ⌜ r ≡ length (now (s .entry)) ⌝ }
+// Where the two parts of a record end: the policy, and what the answer comes with.
+struct Span {
+    whole: bool,
+    middle: usize,
+    end: usize,
+}
+
+fn cut_short(s: &[u8]) -> Ran
+    ensures { λ r. ⌜ (r .end ≡ length (now (s .entry))) × (r .row < 12) ⌝ }
 {
-    note_difference(tally);
-    s.len()
+    Ran {
+        agrees: false,
+        row: 0,
+        outcome: 0,
+        place: 0,
+        end: s.len(),
+    }
+}
+
+// Parts of n and m bytes from `start` on; where they do not fit, both end with the input.
+fn parts_from(s: &[u8], start: usize, n: u64, m: u64) -> Span
+    requires { ⌜ start ≤ length (now s) ⌝ }
+    ensures { λ r. ⌜ Inside start (r .middle) (r .end) (length (now (s .entry))) ⌝ }
+{
+    let all = s.len();
+    if ((all - start) as u64) < n {
+        return Span {
+            whole: false,
+            middle: all,
+            end: all,
+        };
+    }
+    let middle = start + n as usize;
+    if ((all - middle) as u64) < m {
+        return Span {
+            whole: false,
+            middle: all,
+            end: all,
+        };
+    }
+    let end = middle + m as usize;
+    Span {
+        whole: true,
+        middle,
+        end,
+    }
 }
 
 // Input length (2), outcome (1), place (2), the input.
-pub fn file_at(s: &[u8], at: usize, tally: &mut [u64; 393]) -> usize
+pub fn file_at(s: &[u8], at: usize) -> Ran
     requires { ⌜ at < length (now s) ⌝ }
-    ensures { λ r. ⌜ (at < r) × (r ≤ length (now (s .entry))) ⌝ }
+    ensures { λ r. ⌜ Onward at (r .end) (length (now (s .entry))) × (r .row < 12) ⌝ }
 {
     if s.len() - at < 5 {
-        return cut_short(s, tally);
+        return cut_short(s);
     }
     let start = at + 5;
-    let n = two(s, at) as usize;
-    if s.len() - start < n {
-        return cut_short(s, tally);
+    let r = parts_from(s, start, two(s, at), 0);
+    if !r.whole {
+        return cut_short(s);
     }
-    let end = start + n;
+    let end = r.middle;
     let outcome = wide(s[at + 2]);
     let place = two(s, at + 3);
     let agrees = file_agrees(&s[start..end], outcome, place);
-    if agrees {
-        note_place(tally, outcome, place);
+    Ran {
+        agrees,
+        row: 0,
+        outcome,
+        place,
+        end,
     }
-    note(tally, 0, outcome, agrees);
-    end
 }
 
 fn request_of(s: &[u8], at: usize) -> Request
@@ -70,73 +111,79 @@ fn row_of(kind: u64) -> usize
 }
 
 // Policy length (2), officer, kind, a, b (8 each), answer (8), the policy, the new file.
-pub fn request_at(s: &[u8], at: usize, tally: &mut [u64; 393]) -> usize
+pub fn request_at(s: &[u8], at: usize) -> Ran
     requires { ⌜ at < length (now s) ⌝ }
-    ensures { λ r. ⌜ (at < r) × (r ≤ length (now (s .entry))) ⌝ }
+    ensures { λ r. ⌜ Onward at (r .end) (length (now (s .entry))) × (r .row < 12) ⌝ }
 {
     if s.len() - at < 42 {
-        return cut_short(s, tally);
+        return cut_short(s);
     }
     let start = at + 42;
-    let n = two(s, at) as usize;
-    if s.len() - start < n {
-        return cut_short(s, tally);
-    }
-    let middle = start + n;
     let answer = eight(s, at + 34);
-    let m = (answer / 4294967296) as usize;
-    if s.len() - middle < m {
-        return cut_short(s, tally);
+    let r = parts_from(s, start, two(s, at), answer / 4294967296);
+    if !r.whole {
+        return cut_short(s);
     }
-    let end = middle + m;
+    let middle = r.middle;
+    let end = r.end;
     let q = request_of(s, at + 2);
     let agrees = request_agrees(&s[start..middle], q, answer, &s[middle..end]);
-    note(tally, row_of(q.kind), answer % 256, agrees);
-    end
+    Ran {
+        agrees,
+        row: row_of(q.kind),
+        outcome: answer % 256,
+        place: 0,
+        end,
+    }
 }
 
 // Policy length (2), officer (8), answer (8), the policy, three bytes for each entry.
-pub fn listing_at(s: &[u8], at: usize, tally: &mut [u64; 393]) -> usize
+pub fn listing_at(s: &[u8], at: usize) -> Ran
     requires { ⌜ at < length (now s) ⌝ }
-    ensures { λ r. ⌜ (at < r) × (r ≤ length (now (s .entry))) ⌝ }
+    ensures { λ r. ⌜ Onward at (r .end) (length (now (s .entry))) × (r .row < 12) ⌝ }
 {
     if s.len() - at < 18 {
-        return cut_short(s, tally);
+        return cut_short(s);
     }
     let start = at + 18;
-    let n = two(s, at) as usize;
-    if s.len() - start < n {
-        return cut_short(s, tally);
-    }
-    let middle = start + n;
     let answer = eight(s, at + 10);
-    let m = 3 * (answer / 4294967296) as usize;
-    if s.len() - middle < m {
-        return cut_short(s, tally);
+    let r = parts_from(s, start, two(s, at), 3 * (answer / 4294967296));
+    if !r.whole {
+        return cut_short(s);
     }
-    let end = middle + m;
-    let officer = eight(s, at + 2);
-    let agrees = listing_agrees(&s[start..middle], officer, answer, &s[middle..end]);
-    note(tally, 10, answer % 256, agrees);
-    end
+    let middle = r.middle;
+    let end = r.end;
+    let agrees = listing_agrees(&s[start..middle], eight(s, at + 2), answer, &s[middle..end]);
+    Ran {
+        agrees,
+        row: 10,
+        outcome: answer % 256,
+        place: 0,
+        end,
+    }
 }
 
 // Policy length (2), table (8), answer (8), the policy.
-pub fn table_at(s: &[u8], at: usize, tally: &mut [u64; 393]) -> usize
+pub fn table_at(s: &[u8], at: usize) -> Ran
     requires { ⌜ at < length (now s) ⌝ }
-    ensures { λ r. ⌜ (at < r) × (r ≤ length (now (s .entry))) ⌝ }
+    ensures { λ r. ⌜ Onward at (r .end) (length (now (s .entry))) × (r .row < 12) ⌝ }
 {
     if s.len() - at < 18 {
-        return cut_short(s, tally);
+        return cut_short(s);
     }
     let start = at + 18;
-    let n = two(s, at) as usize;
-    if s.len() - start < n {
-        return cut_short(s, tally);
-    }
-    let end = start + n;
     let answer = eight(s, at + 10);
+    let r = parts_from(s, start, two(s, at), 0);
+    if !r.whole {
+        return cut_short(s);
+    }
+    let end = r.middle;
     let agrees = table_agrees(&s[start..end], eight(s, at + 2), answer);
-    note(tally, 11, answer % 256, agrees);
-    end
+    Ran {
+        agrees,
+        row: 11,
+        outcome: answer % 256,
+        place: 0,
+        end,
+    }
 }

@@ -6,27 +6,11 @@ fn show_number(before: &[u8], x: u64) {
     io::print_decimal(STDOUT_FILENO, x);
 }
 
-fn show_file(outcome: u64, count: u64, low: u64, high: u64) {
-    show_number(b"file ", outcome);
-    show_number(b": ", count);
-    show_number(b", places ", low);
-    show_number(b" to ", high);
-    io::write_all(STDOUT_FILENO, b"\n");
-}
-
-// For each outcome of a file how many vectors agree, and their lowest and highest place.
-pub fn show_files(tally: [u64; 393]) {
-    let mut i = 0;
-    while i < 28 {
-        if 0 < tally[i] {
-            show_file(i as u64, tally[i], tally[337 + i], tally[365 + i]);
-        }
-        i += 1;
-    }
-}
-
 fn show_label(row: u64) {
     match row {
+        0 => {
+            io::write_all(STDOUT_FILENO, b"file");
+        }
         9 => {
             io::write_all(STDOUT_FILENO, b"unknown kind");
         }
@@ -42,19 +26,30 @@ fn show_label(row: u64) {
     }
 }
 
-fn show_row(row: u64, outcome: u64, count: u64) {
+// How many vectors of a row agree on an outcome; for files also their lowest and highest place.
+fn show_count(row: u64, outcome: u64, count: u64, low: u64, high: u64) {
     show_label(row);
     show_number(b" ", outcome);
     show_number(b": ", count);
+    if row == 0 {
+        show_number(b", places ", low);
+        show_number(b" to ", high);
+    }
     io::write_all(STDOUT_FILENO, b"\n");
 }
 
-// The same for requests by kind, listings and tables.
-pub fn show_rows(tally: [u64; 393]) {
-    let mut i = 28;
+pub fn show_counts(tally: [u64; 393]) {
+    let mut i = 0;
     while i < 336 {
         if 0 < tally[i] {
-            show_row(i as u64 / 28, i as u64 % 28, tally[i]);
+            let outcome = i % 28;
+            show_count(
+                (i / 28) as u64,
+                outcome as u64,
+                tally[i],
+                tally[337 + outcome],
+                tally[365 + outcome],
+            );
         }
         i += 1;
     }

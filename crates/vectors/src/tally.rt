@@ -4,31 +4,23 @@
 ghost use Prim.Native.Nat.{_<_};
 use std::num::wrapping_add_u64;
 
-pub fn note_difference(tally: &mut [u64; 393]) {
+// What a vector came to: whether the module agrees, under which row and outcome it counts, and where its record ends.
+pub struct Ran {
+    pub agrees: bool,
+    pub row: usize,
+    pub outcome: u64,
+    pub place: u64,
+    pub end: usize,
+}
+
+fn note_difference(tally: &mut [u64; 393]) {
     tally[336] = wrapping_add_u64(tally[336], 1);
 }
 
-pub fn note(tally: &mut [u64; 393], row: usize, outcome: u64, agrees: bool)
-    requires { ⌜ row < 12 ⌝ }
-{
-    if !agrees {
-        note_difference(tally);
-        return;
-    }
-    if 28 <= outcome {
-        note_difference(tally);
-        return;
-    }
-    let i = row * 28 + outcome as usize;
-    tally[i] = wrapping_add_u64(tally[i], 1);
-}
-
 // Called before the file itself is counted, so that its count tells whether it is the first.
-pub fn note_place(tally: &mut [u64; 393], outcome: u64, place: u64) {
-    if 28 <= outcome {
-        return;
-    }
-    let i = outcome as usize;
+fn note_place(tally: &mut [u64; 393], i: usize, place: u64)
+    requires { ⌜ i < 28 ⌝ }
+{
     let none = tally[i] == 0;
     if none || place < tally[337 + i] {
         tally[337 + i] = place;
@@ -36,4 +28,23 @@ pub fn note_place(tally: &mut [u64; 393], outcome: u64, place: u64) {
     if none || tally[365 + i] < place {
         tally[365 + i] = place;
     }
+}
+
+pub fn note(tally: &mut [u64; 393], v: Ran)
+    requires { ⌜ v .row < 12 ⌝ }
+{
+    if !v.agrees {
+        note_difference(tally);
+        return;
+    }
+    if 28 <= v.outcome {
+        note_difference(tally);
+        return;
+    }
+    let outcome = v.outcome as usize;
+    if v.row == 0 {
+        note_place(tally, outcome, v.place);
+    }
+    let i = v.row * 28 + outcome;
+    tally[i] = wrapping_add_u64(tally[i], 1);
 }
