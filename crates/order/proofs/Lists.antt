@@ -39,6 +39,11 @@ junior-below js rows a b e = has-below 64 (getD js a 0) b (rows a) e
 pub junior-past : (js : List ℕ) → Rows js → (a b : ℕ) → 64 ≤ b → senior js a b ≡ false
 junior-past js rows a b l = not-so _ (λ e. absurd (omega (arith, junior-below js rows a b e)))
 
+-- a number that no role has has no seniors, and stands past the last of 64 entries
+pub seniors-past : (js above : List ℕ) → Rows js → length above ≡ 64 → (b : ℕ) → 64 ≤ b → Exactly (getD above b 0) (λ a. senior js a b)
+seniors-past js above rows e b l a =
+    ap (λ (s : ℕ). has s a) (List·getD-eq-default above 0 (subst (λ (n : ℕ). n ≤ b) (sym e) l)) ∙ has-empty a ∙ sym (junior-past js rows a b l)
+
 -- no member reaches a number that no role has
 pub reaches-past : (js : List ℕ) → Rows js → (set b : ℕ) → 64 ≤ b → reaches (senior js) set b ≡ false
 unfolding reaches atLeast

@@ -1,11 +1,12 @@
--- What the two loops of the effects leave, by pairs.
+-- What the two loops of the effects leave, by pairs; and the same pairs seen from the junior.
 use mathlib.Core.Path.{_≡_}
 use mathlib.Core.Bool.{Bool}
 use mathlib.Core.List.{List}
 use Prim.Native.Nat.{ℕ, _<_}
 use lib.Dec.{eqb}
+use lib.ListN.{getD}
 use Rattle.sets.specs.Tests.{_and_, _or_, neg}
-use Rattle.sets.specs.Sets.{has}
+use Rattle.sets.specs.Sets.{has, Exactly}
 use Rattle.order.specs.Order.{Relation, senior, atLeast}
 
 -- the pairs of the 64 rows are exactly those of f
@@ -19,3 +20,7 @@ Spread juniors a gained r = Pairs r (λ x y. senior juniors x y or (atLeast (sen
 -- a has gone from each set of juniors
 abbrev pub Dropped : List ℕ → ℕ → List ℕ → Type 0
 Dropped juniors a r = Pairs r (λ x y. senior juniors x y and neg (eqb y a))
+
+-- of each number the set of its seniors; a number that no role has has none
+pub record Above (juniors above : List ℕ) : Type 0 where
+  pub seniors : (b : ℕ) → Exactly (getD above b 0) (λ a. senior juniors a b)

@@ -7,7 +7,7 @@ ghost use Rattle.sets.specs.Tests.{_and_, _or_, neg};
 ghost use Rattle.sets.specs.Sets.{has, any, subset, Exactly};
 ghost use Rattle.order.specs.Order.{senior, atLeast, comparable, reaches, reached, faulty, firstFault, edge};
 ghost use Rattle.order.specs.Effects.{create, remove, insert, cutEdge};
-ghost use Rattle.order.specs.Rows.{Spread, Dropped};
+ghost use Rattle.order.specs.Rows.{Spread, Dropped, Above};
 use sets::both;
 use sets::has;
 use sets::only;
@@ -68,6 +68,20 @@ pub fn seniors(juniors: &[u64], b: usize) -> u64
         a += 1;
     }
     set
+}
+
+// The set of all seniors of each role, so that who asks it of many roles finds it once.
+pub fn all_seniors(juniors: &[u64]) -> [u64; 64]
+    requires { ⌜ length (now juniors) ≡ 64 ⌝ }
+    ensures { λ r. ⌜ Above (now (juniors .entry)) r ⌝ }
+{
+    let mut above: [u64; 64] = [0; 64];
+    let mut b = 0;
+    while b < 64 {
+        above[b] = seniors(juniors, b);
+        b += 1;
+    }
+    above
 }
 
 // Is some member of set b or senior to b?
