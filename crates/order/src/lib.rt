@@ -84,6 +84,13 @@ pub fn all_seniors(juniors: &[u64]) -> [u64; 64]
     above
 }
 
+// The set of all seniors of b, where those of every role were found: a row of sets is read as one of juniors is.
+pub fn seniors_of(above: &[u64], b: usize) -> u64
+    ensures { λ r. ⌜ r ≡ getD (now (above .entry)) b 0 ⌝ }
+{
+    juniors_of(above, b)
+}
+
 // Is some member of set b or senior to b?
 pub fn reaches(juniors: &[u64], set: u64, b: usize) -> bool
     requires { ⌜ length (now juniors) ≤ 64 ⌝ }

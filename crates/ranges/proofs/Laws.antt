@@ -6,14 +6,14 @@ use mathlib.Core.List.{List}
 use Prim.Native.Nat.{ℕ, _≤_, _<_}
 use lib.Dec.{eqb}
 use borrow.Author.Tests.{lt-ltb, le-ltb}
-use lib.ListN.{length, getD}
+use lib.ListN.{getD}
 use Rattle.sets.specs.Tests.{_and_, _or_, neg, _implies_, _iff_}
 use Rattle.sets.specs.Sets.{has, all, any, Exactly, agreeing}
 use Rattle.sets.proofs.Tests.{and-fails-l, and-fails-r, and-given, or-given, implies-and, eqb-sym}
 use Rattle.sets.proofs.Digits.{has-empty}
 use Rattle.sets.proofs.Quantifiers.{all-same, all-and, any-same}
 use Rattle.order.specs.Order.{Relation, senior, atLeast}
-use Rattle.order.proofs.Lists.{senior-past}
+use Rattle.order.specs.Rows.{Above}
 use Rattle.ranges.specs.Ranges.{inside, inRange, encapsulated, parted, overlapInPart}
 use Rattle.ranges.specs.Rows.{upTo}
 
@@ -23,18 +23,19 @@ unfolding inRange inside
 inside-is f low high r =
     ap₂ _and_ (or-given _ _ (and-fails-r _ _ (has-empty 0))) (or-given _ _ (and-fails-r _ _ (has-empty 1)))
 
-pub inside-past : (js : List ℕ) (low high r : ℕ) → length js ≤ r → inside (senior js) low high r ≡ false
-unfolding inside
-inside-past js low high r l = and-fails-l _ _ (senior-past js low r l)
+-- the seniors of low that are juniors of high
+pub set-inside : (js above : List ℕ) → Above js above → (low high r : ℕ) → (has (getD above low 0) r and has (getD js high 0) r) ≡ inside (senior js) low high r
+unfolding inside senior
+set-inside js above h low high r = ap (λ (b : Bool). b and has (getD js high 0) r) (h .seniors low r)
 
 -- the two tests of `is_parted`, each on whole sets
-pub parted-split : (js : List ℕ) (r outside above below over : ℕ) → Exactly over (λ a. senior js a r)
+pub parted-split : (js ss : List ℕ) → Above js ss → (r outside above below : ℕ)
     → parted (senior js) r (has outside) (has above) (has below)
-    ≡ (agreeing 64 over above outside and agreeing 64 (getD js r 0) below outside)
+    ≡ (agreeing 64 (getD ss r 0) above outside and agreeing 64 (getD js r 0) below outside)
 unfolding parted agreeing senior
-parted-split js r outside above below over e =
+parted-split js ss h r outside above below =
     all-same 64 _ _ (λ s l. implies-and (has outside s) _ _
-    ∙ ap (λ (b : Bool). (has outside s implies (b iff has above s)) and (has outside s implies (has (getD js r 0) s iff has below s))) (sym (e s)))
+    ∙ ap (λ (b : Bool). (has outside s implies (b iff has above s)) and (has outside s implies (has (getD js r 0) s iff has below s))) (sym (h .seniors r s)))
     ∙ all-and 64 _ _
 
 -- the sets that `is_encapsulated` makes

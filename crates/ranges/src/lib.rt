@@ -7,12 +7,14 @@ ghost use lib.ListN.{length};
 ghost use Rattle.sets.specs.Tests.{_and_, _or_, _implies_};
 ghost use Rattle.sets.specs.Sets.{has, all, Exactly};
 ghost use Rattle.order.specs.Order.{senior};
+ghost use Rattle.order.specs.Rows.{Above};
 ghost use Rattle.ranges.specs.Ranges.{inside, inRange, encapsulated, parted, overlapInPart};
 ghost use Rattle.ranges.specs.Rows.{within, rowFails, upTo, firstFailing, overlapFrom, firstOverlap, unsound};
 use order::Order;
+use order::all_seniors;
 use order::is_senior;
 use order::juniors_of;
-use order::seniors;
+use order::seniors_of;
 use sets::agree;
 use sets::both;
 use sets::has;
@@ -55,42 +57,50 @@ pub fn in_range(juniors: &[u64], low: RoleId, high: RoleId, brackets: u8, r: usi
     at_or_over(juniors, top, r, has(ends, 1))
 }
 
-// The roles strictly between low and high.
-pub fn range_set(juniors: &[u64], low: RoleId, high: RoleId) -> u64
-    requires { ⌜ length (now juniors) ≡ 64 ⌝ }
+// The roles strictly between low and high: the juniors of high among the seniors of low.
+pub fn range_set(juniors: &[u64], seniors: &[u64], low: RoleId, high: RoleId) -> u64
+    requires { ⌜ Above (now juniors) (now seniors) ⌝ }
     ensures { λ s. ⌜ Exactly s (inside (senior (now (juniors .entry))) (low .0) (high .0)) ⌝ }
 {
-    let mut set: u64 = 0;
-    let mut r = 0;
-    while r < 64 {
-        if in_range(juniors, low, high, 0, r) {
-            set = with(set, r);
-        }
-        r += 1;
-    }
-    set
+    let bottom = low.0 as usize;
+    let top = high.0 as usize;
+    both(seniors_of(seniors, bottom), juniors_of(juniors, top))
 }
 
 // Of the roles outside, has r above it exactly those of above, and below it exactly those of below?
-fn is_parted(juniors: &[u64], r: usize, outside: u64, above: u64, below: u64) -> bool
-    requires { ⌜ (length (now juniors) ≡ 64) × (r < 64) ⌝ }
+fn is_parted(
+    juniors: &[u64],
+    seniors: &[u64],
+    r: usize,
+    outside: u64,
+    above: u64,
+    below: u64,
+) -> bool
+    requires { ⌜ Above (now juniors) (now seniors) ⌝ }
     ensures { λ b. ⌜ b ≡ parted (senior (now (juniors .entry))) r (has outside) (has above) (has below) ⌝ }
 {
-    if !agree(seniors(juniors, r), above, outside) {
+    if !agree(seniors_of(seniors, r), above, outside) {
         return false;
     }
-    agree(juniors[r], below, outside)
+    agree(juniors_of(juniors, r), below, outside)
 }
 
 // The same of each role of a range.
-fn each_parted(juniors: &[u64], range: u64, outside: u64, above: u64, below: u64) -> bool
-    requires { ⌜ length (now juniors) ≡ 64 ⌝ }
+fn each_parted(
+    juniors: &[u64],
+    seniors: &[u64],
+    range: u64,
+    outside: u64,
+    above: u64,
+    below: u64,
+) -> bool
+    requires { ⌜ Above (now juniors) (now seniors) ⌝ }
     ensures { λ b. ⌜ b ≡ all 64 (λ r. has range r implies parted (senior (now (juniors .entry))) r (has outside) (has above) (has below)) ⌝ }
 {
     let mut r = 0;
     while r < 64 {
         if has(range, r) {
-            if !is_parted(juniors, r, outside, above, below) {
+            if !is_parted(juniors, seniors, r, outside, above, below) {
                 return false;
             }
         }
@@ -110,22 +120,28 @@ fn with_end(set: u64, end: usize) -> u64
 }
 
 // Is the range encapsulated among the roles in use?
-pub fn is_encapsulated(used: u64, juniors: &[u64], low: RoleId, high: RoleId) -> bool
-    requires { ⌜ length (now juniors) ≡ 64 ⌝ }
+pub fn is_encapsulated(
+    used: u64,
+    juniors: &[u64],
+    seniors: &[u64],
+    low: RoleId,
+    high: RoleId,
+) -> bool
+    requires { ⌜ Above (now juniors) (now seniors) ⌝ }
     ensures { λ b. ⌜ b ≡ encapsulated used (senior (now (juniors .entry))) (low .0) (high .0) ⌝ }
 {
     let bottom = low.0 as usize;
     let top = high.0 as usize;
-    let range = range_set(juniors, low, high);
+    let range = range_set(juniors, seniors, low, high);
     let outside = minus(used, range);
-    let above = with_end(seniors(juniors, top), top);
+    let above = with_end(seniors_of(seniors, top), top);
     let below = with_end(juniors_of(juniors, bottom), bottom);
-    each_parted(juniors, range, outside, above, below)
+    each_parted(juniors, seniors, range, outside, above, below)
 }
 
 // Does a row fail the test that is looked for: 24, 25, or else either of the two?
-pub fn row_fails(row: ModifyRow, look: u8, used: u64, juniors: &[u64]) -> bool
-    requires { ⌜ length (now juniors) ≡ 64 ⌝ }
+pub fn row_fails(row: ModifyRow, look: u8, used: u64, juniors: &[u64], seniors: &[u64]) -> bool
+    requires { ⌜ Above (now juniors) (now seniors) ⌝ }
     ensures { λ b. ⌜ b ≡ rowFails look used (senior (now (juniors .entry))) row ⌝ }
 {
     let bottom = row.low.0 as usize;
@@ -134,7 +150,7 @@ pub fn row_fails(row: ModifyRow, look: u8, used: u64, juniors: &[u64]) -> bool
     if look == 24 {
         return !junior;
     }
-    let capsule = is_encapsulated(used, juniors, row.low, row.high);
+    let capsule = is_encapsulated(used, juniors, seniors, row.low, row.high);
     if look == 25 {
         return !capsule;
     }
@@ -145,11 +161,11 @@ pub fn row_fails(row: ModifyRow, look: u8, used: u64, juniors: &[u64]) -> bool
 }
 
 // Does the range of a row overlap another in part?
-pub fn overlaps(range: u64, row: ModifyRow, juniors: &[u64]) -> bool
-    requires { ⌜ length (now juniors) ≡ 64 ⌝ }
+pub fn overlaps(range: u64, row: ModifyRow, juniors: &[u64], seniors: &[u64]) -> bool
+    requires { ⌜ Above (now juniors) (now seniors) ⌝ }
     ensures { λ b. ⌜ b ≡ overlapInPart (has range) (within (senior (now (juniors .entry))) row) ⌝ }
 {
-    let other = range_set(juniors, row.low, row.high);
+    let other = range_set(juniors, seniors, row.low, row.high);
     if both(range, other) == 0 {
         return false;
     }
@@ -160,13 +176,13 @@ pub fn overlaps(range: u64, row: ModifyRow, juniors: &[u64]) -> bool
 }
 
 // The first of the rows lent that fails the test that is looked for; their count where none does.
-fn failing_row(rows: &[ModifyRow], look: u8, used: u64, juniors: &[u64]) -> usize
-    requires { ⌜ length (now juniors) ≡ 64 ⌝ }
+fn failing_row(rows: &[ModifyRow], look: u8, used: u64, juniors: &[u64], seniors: &[u64]) -> usize
+    requires { ⌜ Above (now juniors) (now seniors) ⌝ }
     ensures { λ r. ⌜ r ≡ firstFailing look used (senior (now (juniors .entry))) (length (now (rows .entry))) (now (rows .entry)) ⌝ }
 {
     let mut i = 0;
     while i < rows.len() {
-        if row_fails(rows[i], look, used, juniors) {
+        if row_fails(rows[i], look, used, juniors, seniors) {
             break;
         }
         i += 1;
@@ -175,6 +191,21 @@ fn failing_row(rows: &[ModifyRow], look: u8, used: u64, juniors: &[u64]) -> usiz
 }
 
 // The same of the first rows of an array by value, which lends them: its callers have no record lent, and no walk to prove.
+fn failing_among(
+    rows: [ModifyRow; 64],
+    count: usize,
+    look: u8,
+    used: u64,
+    juniors: &[u64],
+    seniors: &[u64],
+) -> usize
+    requires { ⌜ (count ≤ 64) × Above (now juniors) (now seniors) ⌝ }
+    ensures { λ r. ⌜ r ≡ firstFailing look used (senior (now (juniors .entry))) count rows ⌝ }
+{
+    failing_row(&rows[..count], look, used, juniors, seniors)
+}
+
+// The same, where the seniors are still to be found.
 pub fn first_failing(
     rows: [ModifyRow; 64],
     count: usize,
@@ -185,7 +216,8 @@ pub fn first_failing(
     requires { ⌜ (count ≤ 64) × (length (now juniors) ≡ 64) ⌝ }
     ensures { λ r. ⌜ r ≡ firstFailing look used (senior (now (juniors .entry))) count rows ⌝ }
 {
-    failing_row(&rows[..count], look, used, juniors)
+    let seniors = all_seniors(juniors);
+    failing_among(rows, count, look, used, juniors, &seniors)
 }
 
 // A place, or the rows' count where the place is past the last row.
@@ -199,13 +231,19 @@ fn at_most(place: usize, count: usize) -> usize
 }
 
 // The first of the rows lent, from a place on, that overlaps a range in part; their count where none does.
-fn overlapping_row(rows: &[ModifyRow], from: usize, range: u64, juniors: &[u64]) -> usize
-    requires { ⌜ length (now juniors) ≡ 64 ⌝ }
+fn overlapping_row(
+    rows: &[ModifyRow],
+    from: usize,
+    range: u64,
+    juniors: &[u64],
+    seniors: &[u64],
+) -> usize
+    requires { ⌜ Above (now juniors) (now seniors) ⌝ }
     ensures { λ r. ⌜ r ≡ overlapFrom (senior (now (juniors .entry))) (length (now (rows .entry))) (now (rows .entry)) from (has range) ⌝ }
 {
     let mut i = from;
     while i < rows.len() {
-        if overlaps(range, rows[i], juniors) {
+        if overlaps(range, rows[i], juniors, seniors) {
             break;
         }
         i += 1;
@@ -214,34 +252,44 @@ fn overlapping_row(rows: &[ModifyRow], from: usize, range: u64, juniors: &[u64])
 }
 
 // The same of the first rows of an array by value, which lends them.
-pub fn overlap_from(
+fn overlap_from(
     rows: [ModifyRow; 64],
     count: usize,
     from: usize,
     range: u64,
     juniors: &[u64],
+    seniors: &[u64],
 ) -> usize
-    requires { ⌜ (count ≤ 64) × (length (now juniors) ≡ 64) ⌝ }
+    requires { ⌜ (count ≤ 64) × Above (now juniors) (now seniors) ⌝ }
     ensures { λ r. ⌜ r ≡ overlapFrom (senior (now (juniors .entry))) count rows from (has range) ⌝ }
 {
-    overlapping_row(&rows[..count], from, range, juniors)
+    overlapping_row(&rows[..count], from, range, juniors, seniors)
 }
 
 // The first row that overlaps a later one in part; the rows' count where none does.
-pub fn first_overlap(rows: [ModifyRow; 64], count: usize, juniors: &[u64]) -> usize
-    requires { ⌜ (count ≤ 64) × (length (now juniors) ≡ 64) ⌝ }
+fn overlap_among(rows: [ModifyRow; 64], count: usize, juniors: &[u64], seniors: &[u64]) -> usize
+    requires { ⌜ (count ≤ 64) × Above (now juniors) (now seniors) ⌝ }
     ensures { λ r. ⌜ r ≡ firstOverlap (senior (now (juniors .entry))) count rows ⌝ }
 {
     let mut i = 0;
     while i < count {
         let row = rows[i];
-        let range = range_set(juniors, row.low, row.high);
-        if overlap_from(rows, count, i + 1, range, juniors) < count {
+        let range = range_set(juniors, seniors, row.low, row.high);
+        if overlap_from(rows, count, i + 1, range, juniors, seniors) < count {
             return i;
         }
         i += 1;
     }
     count
+}
+
+// The same, where the seniors are still to be found.
+pub fn first_overlap(rows: [ModifyRow; 64], count: usize, juniors: &[u64]) -> usize
+    requires { ⌜ (count ≤ 64) × (length (now juniors) ≡ 64) ⌝ }
+    ensures { λ r. ⌜ r ≡ firstOverlap (senior (now (juniors .entry))) count rows ⌝ }
+{
+    let seniors = all_seniors(juniors);
+    overlap_among(rows, count, juniors, &seniors)
 }
 
 // Is some range unsound in an order: low not junior to high, not encapsulated, or two overlapping in part?
@@ -251,8 +299,9 @@ pub fn is_unsound(rows: [ModifyRow; 64], count: usize, order: Order) -> bool
 {
     let used = order.used;
     let juniors = order.juniors;
-    if first_failing(rows, count, 9, used, &juniors) < count {
+    let seniors = all_seniors(&juniors);
+    if failing_among(rows, count, 9, used, &juniors, &seniors) < count {
         return true;
     }
-    first_overlap(rows, count, &juniors) < count
+    overlap_among(rows, count, &juniors, &seniors) < count
 }

@@ -1,9 +1,9 @@
-use mathlib.Core.Path.{_≡_, sym, ap, _∙_}
+use mathlib.Core.Path.{_≡_}
 use mathlib.Core.Logic.{⊎-elim}
 use mathlib.Core.List.{List}
 use Prim.Native.Nat.{ℕ, _≤_, _-_}
 use native.Mathlib.Omega.{arith}
-use lib.ListN.{length, length-set, List·getD-eq-default}
+use lib.ListN.{length, length-set}
 use Rattle.sets.specs.Sets.{Exactly}
 use Rattle.sets.proofs.Digits.{lt-or-le}
 use Rattle.sets.proofs.Loops.{Rewritten, rewrite-begin, rewrite-turn}

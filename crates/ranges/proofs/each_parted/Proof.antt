@@ -13,10 +13,10 @@ use Rattle.ranges.proofs.each_parted.Statement.{statement}
 use Rattle.ranges.proofs.each_parted.Tie as tie
 
 abbrev Inv-loop : tie.InvT-loop
-Inv-loop juniors range outside above below r₀ r = (r ≤ 64) × All (λ x. has range x implies parted (senior juniors) x (has outside) (has above) (has below)) r
+Inv-loop juniors seniors range outside above below r₀ r = (r ≤ 64) × All (λ x. has range x implies parted (senior juniors) x (has outside) (has above) (has below)) r
 
 abbrev μ-loop : tie.MeasureT-loop
-μ-loop juniors range outside above below r₀ r = 64 - r
+μ-loop juniors seniors range outside above below r₀ r = 64 - r
 
 loop-holds : tie.Need-loop-holds Inv-loop μ-loop
 loop-holds c = (search needs, all-begin _)

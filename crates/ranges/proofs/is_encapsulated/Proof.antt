@@ -19,8 +19,8 @@ range-set-requires c κs = search needs
 minus-requires : tie.Need-minus-requires
 minus-requires c κs = search needs
 
-seniors-requires : tie.Need-seniors-requires
-seniors-requires c κs = search needs
+seniors-of-requires : tie.Need-seniors-of-requires
+seniors-of-requires c κs = search needs
 
 with-end-requires : tie.Need-with-end-requires
 with-end-requires c κs = search needs
@@ -37,14 +37,15 @@ each-parted-requires c κs = search needs
 returns : tie.Need-returns
 unfolding atLeast senior
 returns c =
-    let x = c .before .before .before .before .before .before .before .before .before .before .args in
+    let at = c .before .before .before .before .before .before .before .before .before .before .before in
+    let x = at .args in
     let range = c .before .before .before .before .before .before .range-set .ensures in
     c .each-parted .ensures
     ∙ encapsulated-is (x .used) (senior (x .juniors .now)) (x .low .0) (x .high .0) _ _ _ _
     (record {
       range-is = range;
       outside-is = λ s. c .before .before .before .before .before .minus .ensures s ∙ rw (range s);
-      above-is = λ s l. c .before .before .before .with-end .ensures s l ∙ rw (c .before .before .before .before .seniors .ensures s);
+      above-is = λ s l. c .before .before .before .with-end .ensures s l ∙ rw (c .before .before .before .before .seniors-of .ensures, at .pre .seniors (x .high .0) s);
       below-is = λ s l. c .before .with-end2 .ensures s l ∙ rw (c .before .before .juniors-of .ensures, eqb-sym s (x .low .0));
     })
 
@@ -56,7 +57,7 @@ is-encapsulated-spec =
     cast-top
     range-set-requires
     minus-requires
-    seniors-requires
+    seniors-of-requires
     with-end-requires
     juniors-of-requires
     with-end-requires-2

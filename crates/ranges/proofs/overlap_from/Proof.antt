@@ -42,6 +42,7 @@ use borrow.Table.Elements.{length-take-le}
 use borrow.Rule.Array.Share.{room-take}
 use Rattle.sets.specs.Sets.{has}
 use Rattle.order.specs.Order.{senior}
+use Rattle.order.specs.Rows.{Above}
 use Rattle.ranges.specs.Rows.{overlapFrom}
 use Rattle.ranges.specs.declared.ModifyRow.{ModifyRow}
 use Rattle.ranges.proofs.Walk.{Bound, After, ends-with, meets, calls-met}
@@ -68,21 +69,27 @@ slice = sliceTy (tyRef erased imm (pointee (T.the-row .written)))
 abbrev Callee : {M : Type 1} (𝓤 : URA M) (H : Heap 𝓤) (A : Atoms 𝓤) (mem : Memory → SProp 𝓤) (run : Routine → Fun 𝓤) → Contract 𝓤
 Callee 𝓤 H A mem run = tripleOf 𝓤 H A callee.signature (callee.spec 𝓤 H A mem run)
 
-module _ {M : Type 1} (𝓤 : URA M) (H : Heap 𝓤) (A : Atoms 𝓤) (W : Given 𝓤 H A) (mem : Memory → SProp 𝓤) (run : Routine → Fun 𝓤) (κ : Lft) (q : Share) (rows : List ModifyRow) (n n₀ range : ℕ) (j : RefT (List ℕ)) (m : Val) where
+module _ {M : Type 1} (𝓤 : URA M) (H : Heap 𝓤) (A : Atoms 𝓤) (W : Given 𝓤 H A) (mem : Memory → SProp 𝓤) (run : Routine → Fun 𝓤) (κ κ′ : Lft) (q q′ : Share) (rows : List ModifyRow) (n n₀ range : ℕ) (j up : RefT (List ℕ)) (m : Val) where
   abbrev vj : Val
   vj = sliceVal (j .ptr) (length (now j))
 
-  abbrev at : Vals this.signature (κ, tt)
-  at = (m ∷ [], (vint w64 n ∷ [], (vint w64 n₀ ∷ [], (vint w64 range ∷ [], (vj ∷ [], tt)))))
+  abbrev vu : Val
+  vu = sliceVal (up .ptr) (length (now up))
+
+  abbrev at : Vals this.signature (κ, (κ′, tt))
+  at = (m ∷ [], (vint w64 n ∷ [], (vint w64 n₀ ∷ [], (vint w64 range ∷ [], (vj ∷ [], (vu ∷ [], tt))))))
 
   abbrev bound : Bound 𝓤 H A W this.ended (this.clauses 𝓤 H A mem run)
-  bound = (((κ, tt), (q, tt), tt, (rows, (n, (n₀, (range, (j, tt))))), at), tt)
+  bound = (((κ, (κ′, tt)), (q, (q′, tt)), tt, (rows, (n, (n₀, (range, (j, (up, tt)))))), at), tt)
 
   abbrev Post : Val → SProp 𝓤
   Post = After 𝓤 H A W this.ended (this.clauses 𝓤 H A mem run) bound
 
   abbrev OwnJ : Fml
   OwnJ = ShrSlice (named 0) κ u64 .own j (vj ∷ [])
+
+  abbrev OwnU : Fml
+  OwnU = ShrSlice (named 1) κ′ u64 .own up (vu ∷ [])
 
   -- ---- the call, on the slice that is lent for α under the name γ, at the local l: what it is passed, and what it asks
   module _ (α : ℕ) (γ : GName) (l : ℕ) where
@@ -96,43 +103,43 @@ module _ {M : Type 1} (𝓤 : URA M) (H : Heap 𝓤) (A : Atoms 𝓤) (W : Given
     OwnS = ShrSlice (named 0) (α ∷ []) T.the-row .own s (v ∷ [])
 
     abbrev to : Callee 𝓤 H A mem run .Ghost
-    to = (((α ∷ [], (κ, tt)), (fullShare, (q, tt)), tt, (s, (n₀, (range, (j, tt)))), (v ∷ [], (vint w64 n₀ ∷ [], (vint w64 range ∷ [], (vj ∷ [], tt))))), tt)
+    to = (((α ∷ [], (κ, (κ′, tt))), (fullShare, (q, (q′, tt))), tt, (s, (n₀, (range, (j, (up, tt))))), (v ∷ [], (vint w64 n₀ ∷ [], (vint w64 range ∷ [], (vj ∷ [], (vu ∷ [], tt)))))), tt)
 
-    goes : n₀ < 2 ^ 64 → range < 2 ^ 64 → length (now j) ≡ 64 → ent 𝓤 (⋆ 𝓤 H A (‵ (flft (α ∷ []) fullShare) ∷ (‵ (flft κ q) ⊛ ‵ ftrue) ∷ ‵ OwnS ∷ ‵ OwnJ ∷ [])) (Callee 𝓤 H A mem run .pre to)
-    goes ga gc whole =
-        qed W (‵ (flft (α ∷ []) fullShare) ∷ (‵ (flft κ q) ⊛ ‵ ftrue) ∷ ‵ OwnS ∷ ‵ OwnJ ∷ []) ∵ says ! whole $ join ! $ frame ! $
-        nothing ! $ move ! (2 ∷ 0 ∷ []) $ fjoin ! $ owned ! u64 (Is u64) (uint-makes 𝓤 H A W w64) range _ (refl, gc) $ fjoin ! $ owned ! usize (Is usize) (uint-makes 𝓤 H A W w64) n₀ _ (refl, ga) $ fjoin ! $ move ! (1 ∷ 0 ∷ []) $ fjoin ! $ done !
+    goes : n₀ < 2 ^ 64 → range < 2 ^ 64 → Above (now j) (now up) → ent 𝓤 (⋆ 𝓤 H A (‵ (flft (α ∷ []) fullShare) ∷ (‵ (flft κ q) ⊛ (‵ (flft κ′ q′) ⊛ ‵ ftrue)) ∷ ‵ OwnS ∷ ‵ OwnJ ∷ ‵ OwnU ∷ [])) (Callee 𝓤 H A mem run .pre to)
+    goes ga gc above =
+        qed W (‵ (flft (α ∷ []) fullShare) ∷ (‵ (flft κ q) ⊛ (‵ (flft κ′ q′) ⊛ ‵ ftrue)) ∷ ‵ OwnS ∷ ‵ OwnJ ∷ ‵ OwnU ∷ []) ∵ says ! above $ join ! $ frame ! $
+        nothing ! $ move ! (3 ∷ 0 ∷ []) $ fjoin ! $ move ! (2 ∷ 0 ∷ []) $ fjoin ! $ owned ! u64 (Is u64) (uint-makes 𝓤 H A W w64) range _ (refl, gc) $ fjoin ! $ owned ! usize (Is usize) (uint-makes 𝓤 H A W w64) n₀ _ (refl, ga) $ fjoin ! $ move ! (1 ∷ 0 ∷ []) $ fjoin ! $ done !
 
   module _ (C : Calls 𝓤 H) (Λ : Loops 𝓤 H) (fm : FmC 𝓤 H (W .laws) C) (known : Triple 𝓤 (C #callee) (Callee 𝓤 H A mem run)) where
-    walk : Is all rows (m ∷ []) → n < 2 ^ 64 → n₀ < 2 ^ 64 → range < 2 ^ 64 → Room u64 (length (now j)) → (n ≤ 64) × (length (now j) ≡ 64)
-        → ent 𝓤 (onEntry 𝓤 H A this.signature (κ, tt) (q, tt) (rows, (n, (n₀, (range, (j, tt))))) at) (WpFn 𝓤 H C Λ code.function (m ∷ vint w64 n ∷ vint w64 n₀ ∷ vint w64 range ∷ vj ∷ []) Post)
-    walk is gn ga gc gj few =
-        qed W ((‵ (flft κ q) ⊛ ‵ ftrue) ∷ ‵ (owns (all ∷ usize ∷ usize ∷ u64 ∷ ShrSlice (named 0) κ u64 ∷ []) (rows, (n, (n₀, (range, (j, tt))))) at) ∷ []) ∵ enter ! C Λ code.function (m ∷ vint w64 n ∷ vint w64 n₀ ∷ vint w64 range ∷ vj ∷ []) _ $
-        alloc1 ! (λ l₀. alloc1 ! (λ l₁. alloc1 ! (λ l₂. alloc1 ! (λ l₃. alloc1 ! (λ l₄. alloc1 ! (λ l₅. alloc1 ! (λ l₆. alloc1 ! (λ l₇. alloc1 ! (λ l₈. alloc0 ! $ params1 ! $
-        pass1 ! (init ! 14 refl typed) $ pass1 ! (init ! 12 refl (tt, record { fits = gn })) $ pass1 ! (init ! 10 refl (tt, record { fits = ga })) $ pass1 ! (init ! 8 refl (tt, record { fits = gc })) $ pass1 ! (init ! 6 refl (tt, (tt, (record { fits = gj .0 }, tt)))) $ pass0 ! $
-        -- [_8; …; _7; …; _6; …; juniors; …; range; …; from; …; n; …; rows; …; _0; …; the token; what the parameters own]
-        assigns ! (of-opd ! (load ! (from ! (stop !)) (look ! 14 refl))) (from ! (stop !)) (init ! 4 refl typed) $
+    walk : Is all rows (m ∷ []) → n < 2 ^ 64 → n₀ < 2 ^ 64 → range < 2 ^ 64 → Room u64 (length (now j)) → Room u64 (length (now up)) → (n ≤ 64) × Above (now j) (now up)
+        → ent 𝓤 (onEntry 𝓤 H A this.signature (κ, (κ′, tt)) (q, (q′, tt)) (rows, (n, (n₀, (range, (j, (up, tt)))))) at) (WpFn 𝓤 H C Λ code.function (m ∷ vint w64 n ∷ vint w64 n₀ ∷ vint w64 range ∷ vj ∷ vu ∷ []) Post)
+    walk is gn ga gc gj gp few =
+        qed W ((‵ (flft κ q) ⊛ (‵ (flft κ′ q′) ⊛ ‵ ftrue)) ∷ ‵ (owns (all ∷ usize ∷ usize ∷ u64 ∷ ShrSlice (named 0) κ u64 ∷ ShrSlice (named 1) κ′ u64 ∷ []) (rows, (n, (n₀, (range, (j, (up, tt)))))) at) ∷ []) ∵ enter ! C Λ code.function (m ∷ vint w64 n ∷ vint w64 n₀ ∷ vint w64 range ∷ vj ∷ vu ∷ []) _ $
+        alloc1 ! (λ l₀. alloc1 ! (λ l₁. alloc1 ! (λ l₂. alloc1 ! (λ l₃. alloc1 ! (λ l₄. alloc1 ! (λ l₅. alloc1 ! (λ l₆. alloc1 ! (λ l₇. alloc1 ! (λ l₈. alloc1 ! (λ l₉. alloc0 ! $ params1 ! $
+        pass1 ! (init ! 16 refl typed) $ pass1 ! (init ! 14 refl (tt, record { fits = gn })) $ pass1 ! (init ! 12 refl (tt, record { fits = ga })) $ pass1 ! (init ! 10 refl (tt, record { fits = gc })) $ pass1 ! (init ! 8 refl (tt, (tt, (record { fits = gj .0 }, tt)))) $ pass1 ! (init ! 6 refl (tt, (tt, (record { fits = gp .0 }, tt)))) $ pass0 ! $
+        -- [_9; …; _8; …; _7; …; seniors; …; juniors; …; range; …; from; …; n; …; rows; …; _0; …; the token; what the parameters own]
+        assigns ! (of-opd ! (load ! (from ! (stop !)) (look ! 16 refl))) (from ! (stop !)) (init ! 4 refl typed) $
         assigns ! (addr ! (from ! (stop !))) (from ! (stop !)) (init ! 2 refl (tt, tt)) $
-        assigns ! (agg ! (and-then ! (load ! (from ! (stop !)) (look ! 2 refl)) (and-then ! (load ! (from ! (stop !)) (look ! 12 refl)) (no-more !)))) (from ! (stop !)) (init ! 0 refl (tt, (tt, (record { fits = gn }, tt)))) $
-        rewrite ! 0 (λ (c : ℕ). ‵ (fat fullShare slice l₈ 0 (sliceVal (l₆, 0) c))) (sym count) refl $
-        move ! (19 ∷ []) $ fsplit ! $ move ! (1 ∷ []) $ fsplit ! $ drop ! $ fsplit ! $ drop ! $ fsplit ! $ drop ! $ fsplit ! $
-        -- [what juniors owns; true; what rows owns; _8; …; _7; …; _6; …]: the local _6 is lent
-        lft-new ! tt (λ α. move ! (8 ∷ 3 ∷ []) $
-        use2 W (later (some (λ (γ : GName). ‵ (OwnS α γ l₆) ⊛ ‵ (Rest 𝓤 H A W T.the-row (α ∷ []) 64 n rows l₆)))) (lends-array 𝓤 H A W T.the-row (α ∷ []) 64 n rows l₆ tt (named 0) m (room-take T.the-row 64 n rows long (lit< tt, lit< tt))) $ await ! tt $ pick ! (λ γ. split ! $
-        -- [what the slice owns; the way back; the new token; what juniors owns; true; _8; …; _7; …; that _6 dies; juniors; …; range; …; from; …; n; …; rows; …; _0; …; the token]
-        move ! (2 ∷ 22 ∷ 0 ∷ 3 ∷ []) $ group ! 4 $ use1 W (raw (Callee 𝓤 H A mem run .pre (to α γ l₆))) (goes α γ l₆ ga gc (few .1)) $
-        -- [what the callee asks; the way back; true; _8; …; _7; …; that _6 dies; juniors; …; range; …; from; …; n; …; rows; …; _0; …]
-        calls-met ! fm callee.ended (callee.clauses 𝓤 H A mem run) known (to α γ l₆) (λ r. r ≡ overlapFrom (senior (now j)) (length (take n rows)) (take n rows) n₀ (has range)) (λ r ws. id⊢ 𝓤 _)
-        (and-then ! (load ! (from ! (stop !)) (look ! 3 refl)) (and-then ! (load ! (from ! (stop !)) (look ! 12 refl)) (and-then ! (load ! (from ! (stop !)) (look ! 10 refl)) (and-then ! (load ! (from ! (stop !)) (look ! 8 refl)) (no-more !))))) (λ u r e.
-        peeks ! usize (Is usize) (shows 𝓤 H A usize) r (u ∷ []) (λ ok. land ! (from ! (stop !)) (init ! 19 refl (uint-lawful 𝓤 H A W w64 .typed r _ ok .0)) $
+        assigns ! (agg ! (and-then ! (load ! (from ! (stop !)) (look ! 2 refl)) (and-then ! (load ! (from ! (stop !)) (look ! 14 refl)) (no-more !)))) (from ! (stop !)) (init ! 0 refl (tt, (tt, (record { fits = gn }, tt)))) $
+        rewrite ! 0 (λ (c : ℕ). ‵ (fat fullShare slice l₉ 0 (sliceVal (l₇, 0) c))) (sym count) refl $
+        move ! (21 ∷ []) $ fsplit ! $ move ! (1 ∷ []) $ fsplit ! $ drop ! $ fsplit ! $ drop ! $ fsplit ! $ drop ! $ fsplit ! $ move ! (1 ∷ []) $ fsplit ! $
+        -- [what seniors owns; true; what juniors owns; what rows owns; _9; …; _8; …; _7; …]: the local _7 is lent
+        lft-new ! tt (λ α. move ! (9 ∷ 4 ∷ []) $
+        use2 W (later (some (λ (γ : GName). ‵ (OwnS α γ l₇) ⊛ ‵ (Rest 𝓤 H A W T.the-row (α ∷ []) 64 n rows l₇)))) (lends-array 𝓤 H A W T.the-row (α ∷ []) 64 n rows l₇ tt (named 0) m (room-take T.the-row 64 n rows long (lit< tt, lit< tt))) $ await ! tt $ pick ! (λ γ. split ! $
+        -- [what the slice owns; the way back; the new token; what seniors owns; true; what juniors owns; _9; …; _8; …; that _7 dies; seniors; …; juniors; …; range; …; from; …; n; …; rows; …; _0; …; the token]
+        move ! (2 ∷ 25 ∷ 0 ∷ 5 ∷ 3 ∷ []) $ group ! 5 $ use1 W (raw (Callee 𝓤 H A mem run .pre (to α γ l₇))) (goes α γ l₇ ga gc (few .1)) $
+        -- [what the callee asks; the way back; true; _9; …; _8; …; that _7 dies; seniors; …; juniors; …; range; …; from; …; n; …; rows; …; _0; …]
+        calls-met ! fm callee.ended (callee.clauses 𝓤 H A mem run) known (to α γ l₇) (λ r. r ≡ overlapFrom (senior (now j)) (length (take n rows)) (take n rows) n₀ (has range)) (λ r ws. id⊢ 𝓤 _)
+        (and-then ! (load ! (from ! (stop !)) (look ! 3 refl)) (and-then ! (load ! (from ! (stop !)) (look ! 14 refl)) (and-then ! (load ! (from ! (stop !)) (look ! 12 refl)) (and-then ! (load ! (from ! (stop !)) (look ! 10 refl)) (and-then ! (load ! (from ! (stop !)) (look ! 8 refl)) (no-more !)))))) (λ u r e.
+        peeks ! usize (Is usize) (shows 𝓤 H A usize) r (u ∷ []) (λ ok. land ! (from ! (stop !)) (init ! 21 refl (uint-lawful 𝓤 H A W w64 .typed r _ ok .0)) $
         -- [what the result owns; the tokens; the way back; true; …]: the lifetime is ended, and the local is room again
-        move ! (1 ∷ []) $ use1 W (‵ (flft (α ∷ []) fullShare) ⊛ (‵ (flft κ q) ⊛ ‵ ftrue)) (id⊢ 𝓤 _) $ split ! $ lft-end ! tt $ move ! (0 ∷ 3 ∷ []) $
-        use2 W (later (‵ (froom (tyArray T′.mir 64) l₆ 0))) (array-back 𝓤 H A W T.the-row (α ∷ []) 64 n rows l₆ long) $ await ! tt $
-        -- [_6; the token; what the result owns; true; _8; …; _7; …; that _6 dies; juniors; …; range; …; from; …; n; …; rows; …; _0; …]
-        returns ! (look ! 19 refl) $ forget ! 4 refl $ forget ! 6 refl $ forget ! 9 refl $ forget ! 11 refl $ forget ! 13 refl $ forget ! 15 refl $ forget ! 17 refl $ forget ! 19 refl $
-        move ! (19 ∷ 20 ∷ []) $ free1 ! $ move ! (17 ∷ 18 ∷ []) $ free1 ! $ move ! (15 ∷ 16 ∷ []) $ free1 ! $ move ! (13 ∷ 14 ∷ []) $ free1 ! $ move ! (11 ∷ 12 ∷ []) $ free1 ! $ move ! (9 ∷ 10 ∷ []) $ free1 ! $
+        move ! (1 ∷ []) $ use1 W (‵ (flft (α ∷ []) fullShare) ⊛ (‵ (flft κ q) ⊛ (‵ (flft κ′ q′) ⊛ ‵ ftrue))) (id⊢ 𝓤 _) $ split ! $ lft-end ! tt $ move ! (0 ∷ 3 ∷ []) $
+        use2 W (later (‵ (froom (tyArray T′.mir 64) l₇ 0))) (array-back 𝓤 H A W T.the-row (α ∷ []) 64 n rows l₇ long) $ await ! tt $
+        -- [_7; the tokens; what the result owns; true; _9; …; _8; …; that _7 dies; seniors; …; juniors; …; range; …; from; …; n; …; rows; …; _0; …]
+        returns ! (look ! 21 refl) $ forget ! 4 refl $ forget ! 6 refl $ forget ! 9 refl $ forget ! 11 refl $ forget ! 13 refl $ forget ! 15 refl $ forget ! 17 refl $ forget ! 19 refl $ forget ! 21 refl $
+        move ! (21 ∷ 22 ∷ []) $ free1 ! $ move ! (19 ∷ 20 ∷ []) $ free1 ! $ move ! (17 ∷ 18 ∷ []) $ free1 ! $ move ! (15 ∷ 16 ∷ []) $ free1 ! $ move ! (13 ∷ 14 ∷ []) $ free1 ! $ move ! (11 ∷ 12 ∷ []) $ free1 ! $ move ! (9 ∷ 10 ∷ []) $ free1 ! $
         move ! (0 ∷ 8 ∷ []) $ free1 ! $ move ! (5 ∷ 6 ∷ []) $ free1 ! $ move ! (3 ∷ 4 ∷ []) $ free1 ! $ free0 ! $
-        keep ! (0 ∷ 1 ∷ []) $ by ! (ends-with 𝓤 H A W this.ended (this.clauses 𝓤 H A mem run) bound u r (tt, (tt, (tt, (tt, (tt, tt))))) (factI 𝓤 _ (emp 𝓤) (e ∙ overlap-lent n rows count (senior (now j)) n₀ (has range)))))))))))))))))
+        keep ! (0 ∷ 1 ∷ []) $ by ! (ends-with 𝓤 H A W this.ended (this.clauses 𝓤 H A mem run) bound u r (tt, (tt, (tt, (tt, (tt, (tt, tt)))))) (factI 𝓤 _ (emp 𝓤) (e ∙ overlap-lent n rows count (senior (now j)) n₀ (has range))))))))))))))))))
       where
         long : length rows ≡ 64
         long = is .1 .0 .1
@@ -148,8 +155,8 @@ unfolding code.routine tablesOf
 overlap-from-spec 𝓤 H 𝓜 𝓖 𝓡 =
     entered 𝓤 H (tripleOf 𝓤 H (𝓖 .A) this.signature (this.spec 𝓤 H (𝓖 .A) (𝓜 .mem) (𝓡 .run)))
     (tables 𝓤 H 𝓜 𝓡 code.env .C) (tables 𝓤 H 𝓜 𝓡 code.env .Λ) #this code.function (code.unfolded 𝓤 H 𝓜 𝓡)
-    (meets 𝓤 H (𝓖 .A) (givenOf 𝓤 H 𝓜 𝓖) this.ended (this.clauses 𝓤 H (𝓖 .A) (𝓜 .mem) (𝓡 .run)) (tablesOf 𝓤 H 𝓜 (tables 𝓤 H 𝓜 𝓡 code.env)) code.function (λ κs x f. refl, (λ κs x f. refl, (λ κs x f. refl, (λ κs x f. refl, (λ κs x f. refl, tt)))))
-    (λ κs. (array-vals (LL.vals T.the-type T′.the-laws), (uint-vals w64, (uint-vals w64, (uint-vals w64, (slice-vals, tt)))))) (λ κs. (array-tells T.the-row (LL.vals T.the-type T′.the-laws) (LL.tells T.the-type T′.the-laws) 64, (uint-tells w64, (uint-tells w64, (uint-tells w64, (shr-slice-tells (named 0) (κs .0) u64, tt))))))
+    (meets 𝓤 H (𝓖 .A) (givenOf 𝓤 H 𝓜 𝓖) this.ended (this.clauses 𝓤 H (𝓖 .A) (𝓜 .mem) (𝓡 .run)) (tablesOf 𝓤 H 𝓜 (tables 𝓤 H 𝓜 𝓡 code.env)) code.function (λ κs x f. refl, (λ κs x f. refl, (λ κs x f. refl, (λ κs x f. refl, (λ κs x f. refl, (λ κs x f. refl, tt))))))
+    (λ κs. (array-vals (LL.vals T.the-type T′.the-laws), (uint-vals w64, (uint-vals w64, (uint-vals w64, (slice-vals, (slice-vals, tt))))))) (λ κs. (array-tells T.the-row (LL.vals T.the-type T′.the-laws) (LL.tells T.the-type T′.the-laws) 64, (uint-tells w64, (uint-tells w64, (uint-tells w64, (shr-slice-tells (named 0) (κs .0) u64, (shr-slice-tells (named 1) (κs .1 .0) u64, tt)))))))
     (λ κs qs bounds a g are. needs 𝓤 _ _
-    (walk 𝓤 H (𝓖 .A) (givenOf 𝓤 H 𝓜 𝓖) (𝓜 .mem) (𝓡 .run) (κs .0) (qs .0) (a .0) (a .1 .0) (a .1 .1 .0) (a .1 .1 .1 .0) (a .1 .1 .1 .1 .0) _ (tables 𝓤 H 𝓜 𝓡 code.env .C) (tables 𝓤 H 𝓜 𝓡 code.env .Λ) (fmOf 𝓤 H (givenOf 𝓤 H 𝓜 𝓖 .laws) (tablesOf 𝓤 H 𝓜 (tables 𝓤 H 𝓜 𝓡 code.env)))
-    (cited 𝓤 H (Callee 𝓤 H (𝓖 .A) (𝓜 .mem) (𝓡 .run)) 𝓜 𝓡 code.env #callee callee-def.routine code.calls-ranges·overlapping-row (callee-thm.met 𝓤 H 𝓜 𝓖 𝓡)) (are .0) (are .1 .0 .1) (are .1 .1 .0 .1) (are .1 .1 .1 .0 .1) (are .1 .1 .1 .1 .0 .0 .1))))
+    (walk 𝓤 H (𝓖 .A) (givenOf 𝓤 H 𝓜 𝓖) (𝓜 .mem) (𝓡 .run) (κs .0) (κs .1 .0) (qs .0) (qs .1 .0) (a .0) (a .1 .0) (a .1 .1 .0) (a .1 .1 .1 .0) (a .1 .1 .1 .1 .0) (a .1 .1 .1 .1 .1 .0) _ (tables 𝓤 H 𝓜 𝓡 code.env .C) (tables 𝓤 H 𝓜 𝓡 code.env .Λ) (fmOf 𝓤 H (givenOf 𝓤 H 𝓜 𝓖 .laws) (tablesOf 𝓤 H 𝓜 (tables 𝓤 H 𝓜 𝓡 code.env)))
+    (cited 𝓤 H (Callee 𝓤 H (𝓖 .A) (𝓜 .mem) (𝓡 .run)) 𝓜 𝓡 code.env #callee callee-def.routine code.calls-ranges·overlapping-row (callee-thm.met 𝓤 H 𝓜 𝓖 𝓡)) (are .0) (are .1 .0 .1) (are .1 .1 .0 .1) (are .1 .1 .1 .0 .1) (are .1 .1 .1 .1 .0 .0 .1) (are .1 .1 .1 .1 .1 .0 .0 .1))))

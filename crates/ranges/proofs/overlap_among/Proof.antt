@@ -9,14 +9,14 @@ use Rattle.ranges.specs.Rows.{rowAt, within, overlap, firstOverlap}
 use Rattle.sets.proofs.Loops.{None, none-begin, none-turn, found-least, none-least}
 use Rattle.ranges.proofs.Checks.{later}
 use borrow.Author.Needs.{needs}
-use Rattle.ranges.proofs.first_overlap.Statement.{statement}
-use Rattle.ranges.proofs.first_overlap.Tie as tie
+use Rattle.ranges.proofs.overlap_among.Statement.{statement}
+use Rattle.ranges.proofs.overlap_among.Tie as tie
 
 abbrev Inv-loop : tie.InvT-loop
-Inv-loop count juniors rows i₀ i = (i ≤ count) × None (λ k. any count (λ j. ltb k j and overlap (senior juniors) (rowAt rows k) (rowAt rows j))) i
+Inv-loop count juniors seniors rows i₀ i = (i ≤ count) × None (λ k. any count (λ j. ltb k j and overlap (senior juniors) (rowAt rows k) (rowAt rows j))) i
 
 abbrev μ-loop : tie.MeasureT-loop
-μ-loop count juniors rows i₀ i = count - i
+μ-loop count juniors seniors rows i₀ i = count - i
 
 loop-holds : tie.Need-loop-holds Inv-loop μ-loop
 loop-holds c = (search needs, none-begin _)
@@ -54,8 +54,8 @@ returns-2 : tie.Need-returns-2 Inv-loop μ-loop
 unfolding firstOverlap
 returns-2 c = none-least _ _ _ (c .loop-test .left) (c .before .loop .inv .1)
 
-pub first-overlap-spec : {M : Type 1} → statement M
-first-overlap-spec =
+pub overlap-among-spec : {M : Type 1} → statement M
+overlap-among-spec =
     tie.close
     (tie.spec
     Inv-loop
