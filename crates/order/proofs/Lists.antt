@@ -6,6 +6,7 @@ use mathlib.Core.Bool.{Bool, true, false}
 use mathlib.Core.List.{List, [], _∷_}
 use Prim.Native.Nat.{ℕ, zero, suc, _+_, _≤_, _<_, _^_}
 use native.Mathlib.Nat.{not-suc-le-zero, le-of-suc-le-suc, add-zero, add-suc, suc-add, zero-add, eq-or-lt-of-le}
+use native.Mathlib.Numerals.{add-one}
 use native.Mathlib.Omega.{arith}
 use lib.ListN.{length, getD, set, length-set, List·getD-eq-default}
 use lib.Seq.{ext-getD, getD-set-same, getD-set-other}
@@ -13,11 +14,11 @@ use lib.Dec.{eqb}
 use borrow.Author.Tests.{ne-eqb}
 use Rattle.sets.specs.Tests.{_and_, _or_, neg, _implies_}
 use Rattle.sets.specs.Sets.{has, all, any, least, setOf, subset, Exactly}
-use Rattle.sets.proofs.Tests.{by-test, clash, not-so, and-i, and-l, and-r, or-l, or-r, or-cases, or-fails, or-fails-l, or-fails-r, or-given, neg-i, neg-e, neg-false, and-fails-r, neg-fails}
+use Rattle.sets.proofs.Tests.{by-test, same-test, clash, not-so, and-i, and-l, and-r, or-l, or-r, or-cases, or-fails, or-fails-l, or-fails-r, or-given, neg-i, neg-e, neg-false, and-fails-r, neg-fails}
 use Rattle.sets.proofs.Digits.{has-empty, has-below, lt-or-le}
-use Rattle.sets.proofs.Quantifiers.{any-at, any-same, any-fails, any-none, least-is, least-any, least-at, least-below}
+use Rattle.sets.proofs.Quantifiers.{any-of, any-at, any-same, any-fails, any-none, least-is, least-any, least-at, least-below}
 use Rattle.sets.proofs.Builders.{setOf-lt, has-setOf, in-setOf, exactly-is, subset-lacks, subset-empty}
-use Rattle.order.specs.Order.{Relation, senior, atLeast, reaches, Strict, InUse, faulty, firstFault, tabFrom, relate}
+use Rattle.order.specs.Order.{Relation, senior, hasSenior, atLeast, reaches, Strict, InUse, faulty, firstFault, tabFrom, relate}
 use Rattle.order.specs.Rows.{Pairs}
 
 -- each row is a set of numbers below 64, which a `&[u64]` always gives
@@ -43,6 +44,31 @@ junior-past js rows a b l = not-so _ (λ e. absurd (omega (arith, junior-below j
 pub seniors-past : (js above : List ℕ) → Rows js → length above ≡ 64 → (b : ℕ) → 64 ≤ b → Exactly (getD above b 0) (λ a. senior js a b)
 seniors-past js above rows e b l a =
     ap (λ (s : ℕ). has s a) (List·getD-eq-default above 0 (subst (λ (n : ℕ). n ≤ b) (sym e) l)) ∙ has-empty a ∙ sym (junior-past js rows a b l)
+
+-- ---- the rows joined: who has a senior among the first i
+pub Joined : List ℕ → ℕ → ℕ → Type 0
+Joined js s i = Exactly s (λ b. any i (λ a. senior js a b))
+
+pub join-begin : (js : List ℕ) → Joined js 0 0
+unfolding Joined any
+join-begin js b = has-empty b
+
+pub join-turn : (js : List ℕ) (s t i : ℕ) → Joined js s i → Exactly t (λ b. has s b or has (getD js i 0) b) → Joined js t (i + 1)
+unfolding Joined any senior
+join-turn js s t i h e b =
+    e b ∙ ap (λ (c : Bool). c or has (getD js i 0) b) (h b) ∙ ap (λ (n : ℕ). any n (λ a. has (getD js a 0) b)) (sym (add-one i))
+
+pub join-end : (js : List ℕ) (s i : ℕ) → length js ≤ i → i ≤ 64 → Joined js s i → Exactly s (hasSenior (senior js))
+unfolding Joined hasSenior
+join-end js s i l m h b =
+    h b
+    ∙ same-test _ _ (λ t. let r = any-at i _ t in any-of 64 _ (r .0) (omega (arith, r .1)) (r .2))
+    (λ t. let r = any-at 64 _ t in any-of i _ (r .0) (omega (arith, senior-row js (r .0) b (r .2))) (r .2))
+
+pub no-seniors : (js : List ℕ) → length js ≤ 64 → (b : ℕ) → hasSenior (senior js) b ≡ false → Exactly 0 (λ a. senior js a b)
+unfolding hasSenior
+no-seniors js l b e a =
+    has-empty a ∙ sym (⊎-elim (λ m. any-none 64 _ e a m) (λ m. senior-past js b a (omega arith)) (lt-or-le a 64))
 
 -- no member reaches a number that no role has
 pub reaches-past : (js : List ℕ) → Rows js → (set b : ℕ) → 64 ≤ b → reaches (senior js) set b ≡ false

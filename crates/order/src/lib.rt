@@ -5,7 +5,7 @@ ghost use lib.Dec.{eqb};
 ghost use lib.ListN.{length, getD};
 ghost use Rattle.sets.specs.Tests.{_and_, _or_, neg};
 ghost use Rattle.sets.specs.Sets.{has, any, subset, Exactly};
-ghost use Rattle.order.specs.Order.{senior, atLeast, comparable, reaches, reached, faulty, firstFault, edge};
+ghost use Rattle.order.specs.Order.{senior, hasSenior, atLeast, comparable, reaches, reached, faulty, firstFault, edge};
 ghost use Rattle.order.specs.Effects.{create, remove, insert, cutEdge};
 ghost use Rattle.order.specs.Rows.{Spread, Dropped, Above};
 use sets::both;
@@ -70,15 +70,41 @@ pub fn seniors(juniors: &[u64], b: usize) -> u64
     set
 }
 
+// The set of all that are junior to some role.
+fn all_juniors(juniors: &[u64]) -> u64
+    requires { ⌜ length (now juniors) ≤ 64 ⌝ }
+    ensures { λ r. ⌜ Exactly r (hasSenior (senior (now (juniors .entry)))) ⌝ }
+{
+    let mut set: u64 = 0;
+    let mut a = 0;
+    while a < juniors.len() {
+        set = union(set, juniors[a]);
+        a += 1;
+    }
+    set
+}
+
+// The set of all seniors of b, where lower is the set of all that have one: few roles of a small order do.
+fn seniors_if_any(juniors: &[u64], lower: u64, b: usize) -> u64
+    requires { ⌜ (b < 64) × (length (now juniors) ≤ 64) × Exactly lower (hasSenior (senior (now juniors))) ⌝ }
+    ensures { λ r. ⌜ Exactly r (λ a. senior (now (juniors .entry)) a b) ⌝ }
+{
+    if !has(lower, b) {
+        return 0;
+    }
+    seniors(juniors, b)
+}
+
 // The set of all seniors of each role, so that who asks it of many roles finds it once.
 pub fn all_seniors(juniors: &[u64]) -> [u64; 64]
     requires { ⌜ length (now juniors) ≡ 64 ⌝ }
     ensures { λ r. ⌜ Above (now (juniors .entry)) r ⌝ }
 {
+    let lower = all_juniors(juniors);
     let mut above: [u64; 64] = [0; 64];
     let mut b = 0;
     while b < 64 {
-        above[b] = seniors(juniors, b);
+        above[b] = seniors_if_any(juniors, lower, b);
         b += 1;
     }
     above

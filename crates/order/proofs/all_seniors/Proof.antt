@@ -18,16 +18,19 @@ abbrev Row : List ℕ → ℕ → ℕ → Type 0
 Row juniors b v = Exactly v (λ a. senior juniors a b)
 
 abbrev Inv-loop : tie.InvT-loop
-Inv-loop juniors above₀ b₀ above b = (length above ≡ 64) × (b ≤ 64) × Rewritten (Row juniors) above₀ above b
+Inv-loop juniors lower above₀ b₀ above b = (length above ≡ 64) × (b ≤ 64) × Rewritten (Row juniors) above₀ above b
 
 abbrev μ-loop : tie.MeasureT-loop
-μ-loop juniors above₀ b₀ above b = 64 - b
+μ-loop juniors lower above₀ b₀ above b = 64 - b
 
 loop-holds : tie.Need-loop-holds Inv-loop μ-loop
 loop-holds c = (search needs, search needs, rewrite-begin _ _)
 
-seniors-requires : tie.Need-seniors-requires Inv-loop μ-loop
-seniors-requires c κs = search needs
+all-juniors-requires : tie.Need-all-juniors-requires Inv-loop μ-loop
+all-juniors-requires c κs = search needs
+
+seniors-if-any-requires : tie.Need-seniors-if-any-requires Inv-loop μ-loop
+seniors-if-any-requires c κs = search needs
 
 mul-above : tie.Need-mul-above Inv-loop μ-loop
 mul-above c = search needs
@@ -44,16 +47,16 @@ loop-less c = search needs
 loop-again : tie.Need-loop-again Inv-loop μ-loop
 loop-again c =
     let inv = c .before .before .loop .inv in
-    (simp length-set (inv .0), search needs, rewrite-turn _ _ _ _ _ (omega arith) (inv .2) (c .seniors .ensures))
+    (simp length-set (inv .0), search needs, rewrite-turn _ _ _ _ _ (omega arith) (inv .2) (c .seniors-if-any .ensures))
 
 returns : tie.Need-returns Inv-loop μ-loop
 returns c =
-    let js = c .before .before .before .args .juniors .now in
+    let js = c .before .before .before .before .args .juniors .now in
     let inv = c .before .loop .inv in
     record {
       seniors = λ b.
           ⊎-elim (λ l. inv .2 .done b (omega arith))
-          (λ l. seniors-past js (c .before .loop .above) (λ i. c .before .before .shared-slice-known .given i .fits) (inv .0) b l)
+          (λ l. seniors-past js (c .before .loop .above) (λ i. c .before .before .before .shared-slice-known .given i .fits) (inv .0) b l)
           (lt-or-le b 64);
     }
 
@@ -63,8 +66,9 @@ all-seniors-spec =
     (tie.spec
     Inv-loop
     μ-loop
+    all-juniors-requires
     loop-holds
-    seniors-requires
+    seniors-if-any-requires
     mul-above
     array-write-above
     add-b
