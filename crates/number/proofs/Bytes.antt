@@ -51,12 +51,8 @@ bits (suc k) =
     let e : 7 * suc k ≡ 7 + 7 * k = omega arith in
     rw e (pow-add 2 7 (7 * k) ∙ rw (bits k) (sym (pow-succ' 128 k)))
 
--- from 1 byte to 10, and k bytes at most where 7 * k bits hold the number
+-- 10 bytes at most, and k bytes at most where 7 * k bits hold the number
 module _ (x : ℕ) where
-  pub bytes-some : 1 ≤ length (numBytes x)
-  unfolding numBytes
-  bytes-some = length-first 9 x
-
   pub bytes-most : length (numBytes x) ≤ 10
   unfolding numBytes
   bytes-most = length-of 9 9 x (λ p. absurd (omega arith))

@@ -50,12 +50,7 @@ pub on-step : {A B : Type 0} (m : Step A) (f : ℕ → A → Step B) {e : ℕ} {
 on-step (go next a) f q = (next, a, refl, q)
 on-step (stop c p) f q = no-go q
 
--- and what one has been that was stopped: refused itself, or gone past and stopped later
-pub on-num-stop : {A : Type 0} (m : Num) (f : ℕ → ℕ → Step A) {c p : ℕ} → onNum m f ≡ stop c p
-    → (m ≡ Refused c p) ⊎ ((x : ℕ) × (next : ℕ) × (m ≡ Value x next) × (f x next ≡ stop c p))
-on-num-stop (Value x next) f q = inr (x, next, refl, q)
-on-num-stop (Refused c p) f q = inl (cc)
-
+-- and what one has been that was stopped: stopped itself, or gone past and stopped later
 pub on-step-stop : {A B : Type 0} (m : Step A) (f : ℕ → A → Step B) {c p : ℕ} → onStep m f ≡ stop c p
     → (m ≡ stop c p) ⊎ ((next : ℕ) × (a : A) × (m ≡ go next a) × (f next a ≡ stop c p))
 on-step-stop (go next a) f q = inr (next, a, refl, q)

@@ -1,19 +1,17 @@
 -- Each of the four effects keeps a strict order strict, and its pairs between roles in use, under the condition that document 01 gives for it.
 -- Carried from relations to the order as the policy holds it.
 -- Assumes nothing.
-use mathlib.Core.Path.{_≡_, refl, sym, ap, _∙_}
-use mathlib.Core.Bool.{Bool, true, false}
+use mathlib.Core.Path.{_≡_, refl, _∙_}
+use mathlib.Core.Bool.{true, false}
 use Prim.Native.Nat.{ℕ, _<_, _^_}
-use lib.Dec.{eqb}
 use borrow.Author.Tests.{eq-eqb}
-use Rattle.sets.specs.Tests.{_and_, _or_, neg}
-use Rattle.sets.specs.Sets.{has, setOf}
+use Rattle.sets.specs.Sets.{has}
 use Rattle.sets.proofs.Tests.{and-i, or-l, or-r, neg-i}
 use Rattle.sets.proofs.Digits.{has-below}
 use Rattle.sets.proofs.Builders.{has-setOf, setOf-lt}
 use Rattle.order.specs.declared.Order.{Order}
 use Rattle.order.specs.Order.{Relation, senior, comparable, Strict, InUse, edge, relate}
-use Rattle.order.specs.Effects.{created, removed, inserted, cut, create, remove, insert, cutEdge}
+use Rattle.order.specs.Effects.{create, remove, insert, cutEdge}
 use Rattle.order.proofs.Relations.{unused-free, edge-means, insert-strict, cut-strict, remove-strict, create-strict, insert-used, cut-used, remove-used, create-used}
 use Rattle.order.proofs.Lists.{in-relate}
 

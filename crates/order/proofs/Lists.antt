@@ -1,22 +1,21 @@
 -- Orders as lists of sets: what a list made of a relation says, when two are one, and that the test of the code decides `Strict`.
 -- Assumes nothing.
 use mathlib.Core.Path.{_≡_, refl, sym, ap, _∙_, subst}
-use mathlib.Core.Logic.{_⊎_, inl, inr, ⊎-elim}
+use mathlib.Core.Logic.{_⊎_, ⊎-elim}
 use mathlib.Core.Bool.{Bool, true, false}
-use mathlib.Core.List.{List, [], _∷_}
+use mathlib.Core.List.{List}
 use Prim.Native.Nat.{ℕ, zero, suc, _+_, _≤_, _<_, _^_}
 use native.Mathlib.Nat.{not-suc-le-zero, le-of-suc-le-suc, add-zero, add-suc, suc-add, zero-add, eq-or-lt-of-le}
 use native.Mathlib.Numerals.{add-one}
 use native.Mathlib.Omega.{arith}
 use lib.ListN.{length, getD, set, length-set, List·getD-eq-default}
 use lib.Seq.{ext-getD, getD-set-same, getD-set-other}
-use lib.Dec.{eqb}
 use borrow.Author.Tests.{ne-eqb}
-use Rattle.sets.specs.Tests.{_and_, _or_, neg, _implies_}
-use Rattle.sets.specs.Sets.{has, all, any, least, setOf, subset, Exactly}
-use Rattle.sets.proofs.Tests.{by-test, same-test, clash, not-so, and-i, and-l, and-r, or-l, or-r, or-cases, or-fails, or-fails-l, or-fails-r, or-given, neg-i, neg-e, neg-false, and-fails-r, neg-fails}
+use Rattle.sets.specs.Tests.{_and_, _or_, neg}
+use Rattle.sets.specs.Sets.{has, any, setOf, subset, Exactly}
+use Rattle.sets.proofs.Tests.{by-test, same-test, clash, not-so, and-i, and-l, and-r, or-fails, or-fails-l, or-fails-r, neg-e, neg-false, and-fails-r, neg-fails}
 use Rattle.sets.proofs.Digits.{has-empty, has-below, lt-or-le}
-use Rattle.sets.proofs.Quantifiers.{any-of, any-at, any-same, any-fails, any-none, least-is, least-any, least-at, least-below}
+use Rattle.sets.proofs.Quantifiers.{any-of, any-at, any-same, any-fails, any-none, least-is, least-below}
 use Rattle.sets.proofs.Builders.{setOf-lt, has-setOf, in-setOf, exactly-is, subset-lacks, subset-empty}
 use Rattle.order.specs.Order.{Relation, senior, hasSenior, atLeast, reaches, Strict, InUse, faulty, firstFault, tabFrom, relate}
 use Rattle.order.specs.Rows.{Pairs}
@@ -137,9 +136,6 @@ pairs-is r f e rows h =
 -- so `Pairs` leaves one order
 pub pairs-one : (r s : List ℕ) (f : Relation) → length r ≡ 64 → length s ≡ 64 → Rows r → Rows s → Pairs r f → Pairs s f → r ≡ s
 pairs-one r s f er es hr hs pr ps = pairs-is r f er hr pr ∙ sym (pairs-is s f es hs ps)
-
-pub pairs-same : (r : List ℕ) (f g : Relation) → ((x y : ℕ) → f x y ≡ g x y) → Pairs r f → Pairs r g
-pairs-same r f g e h = record { pair = λ x y l. h .pair x y l ∙ e x y }
 
 -- ---- one row replaced by v: it holds what f says of a, and the other rows what f says of them
 module _ (js : List ℕ) (a v : ℕ) (f : Relation) (h : a < length js) (here : Exactly v (f a))

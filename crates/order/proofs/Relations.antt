@@ -1,14 +1,14 @@
 -- The four effects keep a strict order strict, and its pairs between roles in use: on relations, with no list in sight.
 -- Assumes nothing.
-use mathlib.Core.Path.{_≡_, refl, sym, ap, _∙_, subst}
-use mathlib.Core.Logic.{_⊎_, inl, inr, ⊎-elim}
-use mathlib.Core.Bool.{Bool, true, false}
+use mathlib.Core.Path.{_≡_, sym, ap, _∙_, subst}
+use mathlib.Core.Logic.{_⊎_, ⊎-elim}
+use mathlib.Core.Bool.{true, false}
 use Prim.Native.Nat.{ℕ, _<_, _^_}
 use lib.Dec.{eqb}
 use borrow.Author.Tests.{eqb-true, eqb-false, eq-eqb, ne-eqb}
-use Rattle.sets.specs.Tests.{_and_, _or_, neg}
-use Rattle.sets.specs.Sets.{has, any}
-use Rattle.sets.proofs.Tests.{by-test, clash, not-so, and-i, and-l, and-r, or-l, or-r, or-cases, or-fails, or-fails-l, or-fails-r, neg-i, neg-e}
+use Rattle.sets.specs.Tests.{_and_, _or_}
+use Rattle.sets.specs.Sets.{has}
+use Rattle.sets.proofs.Tests.{clash, not-so, and-i, and-l, and-r, or-l, or-r, or-cases, or-fails, or-fails-l, or-fails-r, neg-i, neg-e}
 use Rattle.sets.proofs.Digits.{has-below}
 use Rattle.sets.proofs.Quantifiers.{any-none}
 use Rattle.order.specs.Order.{Relation, atLeast, comparable, Strict, InUse, edge}
@@ -54,10 +54,6 @@ module _ (f : Relation) (h : Strict f) where
   senior-at-least : (a b : ℕ) → f a b ≡ true → atLeast f a b ≡ true
   unfolding atLeast
   senior-at-least a b s = or-r _ _ s
-
-  self-at-least : (a : ℕ) → atLeast f a a ≡ true
-  unfolding atLeast
-  self-at-least a = or-l _ _ (eq-eqb a a refl)
 
   -- senior to one that is at least b, or at least one that is senior to b: senior to b
   pub over-least : (a b c : ℕ) → f a b ≡ true → atLeast f b c ≡ true → f a c ≡ true

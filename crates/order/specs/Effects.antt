@@ -1,5 +1,4 @@
 -- The effects of kinds 5 to 8 on the hierarchy. Document 01, "The eight requests". Each says which pairs (x, y), x senior to y, it leaves.
-use mathlib.Core.Bool.{Bool}
 use Prim.Native.Nat.{ℕ}
 use lib.Dec.{eqb}
 use Rattle.sets.specs.Tests.{_and_, _or_, neg}

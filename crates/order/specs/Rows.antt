@@ -1,6 +1,5 @@
 -- What the two loops of the effects leave, by pairs; and the same pairs seen from the junior.
 use mathlib.Core.Path.{_≡_}
-use mathlib.Core.Bool.{Bool}
 use mathlib.Core.List.{List}
 use Prim.Native.Nat.{ℕ, _<_}
 use lib.Dec.{eqb}

@@ -1,13 +1,12 @@
 -- The checks of all rows: two rows are looked at once, and number 9 is what the two walks find.
 -- Assumes nothing.
 use mathlib.Core.Path.{_≡_, refl, sym, ap, ap₂, _∙_, subst}
-use mathlib.Core.Logic.{_⊎_, inl, inr, ⊎-elim}
+use mathlib.Core.Logic.{_⊎_, ⊎-elim}
 use mathlib.Core.Bool.{Bool, true, false, not}
 use mathlib.Core.List.{List}
-use Prim.Native.Nat.{ℕ, suc, _+_, _≤_, _<_}
+use Prim.Native.Nat.{ℕ, _+_, _≤_, _<_}
 use native.Mathlib.Numerals.{add-one}
-use native.Mathlib.Omega.{arith}
-use lib.Dec.{eqb, leb, ltb}
+use lib.Dec.{leb, ltb}
 use lib.ListN.{length, take}
 use lib.Seq.{getD-take}
 use borrow.Author.Tests.{lt-ltb, le-ltb, lt-leb, eq-eqb, ne-eqb}
@@ -15,7 +14,7 @@ use Rattle.sets.specs.Tests.{_and_, _or_, neg}
 use Rattle.sets.specs.Sets.{has, any, least}
 use Rattle.sets.proofs.Tests.{same-test, not-so, clash, and-i, and-l, and-r, and-fails-l, and-comm, or-l, or-given, or-assoc, neg-e, not-neg}
 use Rattle.sets.proofs.Loops.{None}
-use Rattle.sets.proofs.Quantifiers.{any-of, any-at, any-fails, any-same, any-or, least-same, least-any}
+use Rattle.sets.proofs.Quantifiers.{any-of, any-at, any-same, any-or, least-same, least-any}
 use Rattle.order.specs.Order.{Relation}
 use Rattle.ranges.specs.declared.ModifyRow.{ModifyRow}
 use Rattle.ranges.specs.Ranges.{encapsulated, overlapInPart}

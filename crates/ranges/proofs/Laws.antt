@@ -8,7 +8,7 @@ use lib.Dec.{eqb}
 use borrow.Author.Tests.{lt-ltb, le-ltb}
 use lib.ListN.{getD}
 use Rattle.sets.specs.Tests.{_and_, _or_, neg, _implies_, _iff_}
-use Rattle.sets.specs.Sets.{has, all, any, Exactly, agreeing}
+use Rattle.sets.specs.Sets.{has, all, Exactly, agreeing}
 use Rattle.sets.proofs.Tests.{and-fails-l, and-fails-r, and-given, or-given, implies-and, eqb-sym}
 use Rattle.sets.proofs.Digits.{has-empty}
 use Rattle.sets.proofs.Quantifiers.{all-same, all-and, any-same}

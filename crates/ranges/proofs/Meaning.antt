@@ -1,19 +1,18 @@
 -- What the tests say, as statements: `encapsulated` decides `Encapsulated`, and rows that are not unsound are `SoundRows`.
 -- Assumes nothing.
-use mathlib.Core.Path.{_≡_, refl, sym, ap, _∙_}
-use mathlib.Core.Logic.{_⊎_, inl, inr, ⊎-elim}
-use mathlib.Core.Bool.{Bool, true, false}
+use mathlib.Core.Path.{_≡_}
+use mathlib.Core.Bool.{true, false}
 use mathlib.Core.List.{List}
 use Prim.Native.Nat.{ℕ, _<_, _^_}
-use Rattle.sets.specs.Tests.{_and_, _or_, neg, _implies_, _iff_}
-use Rattle.sets.specs.Sets.{has, all, any}
-use Rattle.sets.proofs.Tests.{not-so, clash, and-i, and-l, and-r, or-fails, or-fails-l, or-fails-r, neg-i, neg-e, neg-false, neg-fails, implies-i, implies-e, iff-i, iff-e}
+use Rattle.sets.specs.Tests.{_and_, _iff_}
+use Rattle.sets.specs.Sets.{has}
+use Rattle.sets.proofs.Tests.{and-i, and-l, and-r, or-fails, or-fails-l, or-fails-r, neg-i, neg-e, neg-false, neg-fails, implies-i, implies-e, iff-i, iff-e}
 use Rattle.sets.proofs.Digits.{has-below}
 use Rattle.sets.proofs.Quantifiers.{all-of, all-at, any-fails, any-none}
 use Rattle.order.specs.Order.{Relation, atLeast, InUse}
 use Rattle.ranges.specs.declared.ModifyRow.{ModifyRow}
 use Rattle.ranges.specs.Ranges.{inside, encapsulated, Encapsulated}
-use Rattle.ranges.specs.Rows.{rowAt, lowNotJunior, notEncapsulated, overlap, unsound, SoundRows}
+use Rattle.ranges.specs.Rows.{lowNotJunior, notEncapsulated, unsound, SoundRows}
 
 module _ (used : ℕ) (f : Relation) (width : used < 2 ^ 64) (in-use : InUse used f) where
   inside-below : (low high r : ℕ) → inside f low high r ≡ true → r < 64

@@ -1,19 +1,19 @@
 -- The laws of sets made of a test, and of the tests that the machine makes on whole sets. Each over the width.
 -- Assumes nothing.
 use mathlib.Core.Path.{_≡_, refl, sym, ap, _∙_}
-use mathlib.Core.Logic.{_⊎_, inl, inr, ⊎-elim}
+use mathlib.Core.Logic.{_⊎_, ⊎-elim}
 use mathlib.Core.Bool.{Bool, true, false}
 use Prim.Native.Nat.{ℕ, zero, suc, _+_, _-_, _*_, _^_, _≤_, _<_}
-use native.Mathlib.Nat.{not-suc-le-zero, le-of-suc-le-suc, zero-lt-suc, eq-or-lt-of-le, add-zero, le-refl, lt-of-le-of-lt, suc-ne-zero, one-mul, pow-suc}
+use native.Mathlib.Nat.{not-suc-le-zero, le-of-suc-le-suc, zero-lt-suc, eq-or-lt-of-le, add-zero, le-refl, lt-of-le-of-lt, one-mul, pow-suc}
 use native.Mathlib.Omega.{arith}
 use lib.Bits.{bitAnd, or-shifted-r, and-le-l}
 use lib.Dec.{eqb}
 use borrow.Author.Tests.{eq-eqb, ne-eqb, eqb-true}
 use Rattle.sets.specs.Tests.{_and_, _or_, neg, _implies_, _iff_, pick}
 use Rattle.sets.specs.Sets.{has, all, any, setOf, Exactly, subset, agreeing}
-use Rattle.sets.proofs.Tests.{by-test, clash, not-so, same-test, and-i, and-l, and-r, or-false, or-r, neg-e, neg-i, neg-fails, neg-neg, implies-i, implies-e, implies-given, implies-not, implies-neg, iff-e, iff-i}
-use Rattle.sets.proofs.Digits.{has-empty, has-or, has-and, has-bit, has-minus, has-beyond, none-beyond, same-set, none-is-empty, lt-or-le}
-use Rattle.sets.proofs.Quantifiers.{all-of, all-at, any-of, any-at, any-fails, any-none}
+use Rattle.sets.proofs.Tests.{by-test, clash, same-test, or-false, or-r, neg-e, neg-i, neg-fails, neg-neg, implies-i, implies-e, implies-not, implies-neg}
+use Rattle.sets.proofs.Digits.{has-empty, has-or, has-and, has-bit, has-beyond, none-beyond, same-set, none-is-empty, lt-or-le}
+use Rattle.sets.proofs.Quantifiers.{all-of, all-at, any-at, any-fails, any-none}
 
 -- ---- the set of the numbers that pass a test
 pub setOf-lt : (w : ℕ) (f : ℕ → Bool) → setOf w f < 2 ^ w

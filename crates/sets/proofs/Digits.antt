@@ -3,12 +3,12 @@
 use mathlib.Core.Path.{_≡_, refl, sym, ap, _∙_, subst}
 use mathlib.Core.Logic.{_⊎_, inl, inr, ⊎-elim}
 use mathlib.Core.Bool.{Bool, true, false, true≢false, false≢true}
-use Prim.Native.Nat.{ℕ, zero, suc, _+_, _-_, _*_, _/_, _%_, _^_, _≤_, _<_, min, max, suc-le-suc, zero-le}
-use native.Mathlib.Nat.{div-div-eq-div-mul, mul-comm, pow-suc, mod-lt, div-one, not-suc-le-zero, le-of-suc-le-suc, div-eq-of-lt, lt-of-lt-of-le, zero-lt-suc, one-mul, mod-eq-of-lt, zero-div, lt-of-le-of-lt}
+use Prim.Native.Nat.{ℕ, zero, suc, _-_, _*_, _/_, _%_, _^_, _≤_, _<_, min, max, suc-le-suc, zero-le}
+use native.Mathlib.Nat.{div-div-eq-div-mul, mul-comm, pow-suc, mod-lt, div-one, not-suc-le-zero, le-of-suc-le-suc, div-eq-of-lt, lt-of-lt-of-le, zero-lt-suc, one-mul, mod-eq-of-lt, zero-div}
 use native.Mathlib.Omega.{arith}
 use lib.Arith.{digits-mod, lt-one}
 use lib.Pow.{pow-pos, pow-mono, pow-lt}
-use lib.Bits.{bitAnd, bitOr, or-shr, and-shr, and-le-l, or-step, and-step}
+use lib.Bits.{bitAnd, bitOr, or-shr, and-shr, or-step, and-step}
 use lib.Dec.{eqb, eqb·suc-zero, eqb·zero-suc, eqb·suc-suc}
 use Rattle.sets.specs.Tests.{_and_, _or_, neg}
 use Rattle.sets.specs.Sets.{has, Exactly}

@@ -2,21 +2,20 @@
 -- A loop's invariant names the law's statement, and the loop's start, turn and end each cite one law.
 -- Assumes nothing.
 use mathlib.Core.Path.{_≡_, refl, sym, ap, _∙_, subst}
-use mathlib.Core.Logic.{_⊎_, inl, inr, ⊎-elim}
+use mathlib.Core.Logic.{_⊎_, ⊎-elim}
 use mathlib.Core.Bool.{Bool, true, false}
 use mathlib.Core.List.{List}
-use Prim.Native.Nat.{ℕ, zero, suc, _+_, _≤_, _<_, zero-le}
-use native.Mathlib.Nat.{not-suc-le-zero, le-antisymm, le-trans, lt-of-lt-of-le, eq-or-lt-of-le}
-use native.Mathlib.Numerals.{add-one}
+use Prim.Native.Nat.{ℕ, _+_, _≤_, _<_, zero-le}
+use native.Mathlib.Nat.{not-suc-le-zero, le-trans, lt-of-lt-of-le, eq-or-lt-of-le}
 use native.Mathlib.Omega.{arith}
 use borrow.Author.Count.{below-more}
 use borrow.Author.Tests.{eq-eqb, ne-eqb, eqb-true, lt-ltb, le-ltb}
 use lib.Dec.{eqb, ltb}
 use lib.ListN.{length, getD, set}
 use lib.Seq.{getD-set-same, getD-set-other}
-use Rattle.sets.specs.Tests.{_and_, _or_, neg}
+use Rattle.sets.specs.Tests.{_and_, _or_}
 use Rattle.sets.specs.Sets.{has, all, any, least, setOf, Exactly}
-use Rattle.sets.proofs.Tests.{by-test, clash, and-i, and-given, and-fails-l, or-fails, or-l, or-r, or-given, and-l, and-r, or-cases, same-test}
+use Rattle.sets.proofs.Tests.{and-given, and-fails-l, or-fails, or-l, or-r}
 use Rattle.sets.proofs.Digits.{has-empty, none-beyond, lt-or-le}
 use Rattle.sets.proofs.Builders.{setOf-is}
 use Rattle.sets.proofs.Quantifiers.{least-is, any-of, any-fails, all-of, all-fails}

@@ -1,10 +1,10 @@
 -- The laws of `all`, `any`, `least` and `count`, each over the width.
 -- Assumes nothing.
 use mathlib.Core.Path.{_≡_, refl, sym, ap, ap₂, _∙_, subst}
-use mathlib.Core.Logic.{_⊎_, inl, inr, ⊎-elim}
+use mathlib.Core.Logic.{_⊎_, ⊎-elim}
 use mathlib.Core.Bool.{Bool, true, false}
 use Prim.Native.Nat.{ℕ, zero, suc, _+_, _-_, _/_, _%_, _^_, _≤_, _<_, suc-le-suc, zero-le}
-use native.Mathlib.Nat.{add-zero, add-suc, add-assoc, lt-irrefl, not-suc-le-zero, le-of-suc-le-suc, lt-of-lt-of-le, zero-lt-suc, eq-or-lt-of-le, mod-lt, pow-suc, le-trans}
+use native.Mathlib.Nat.{add-zero, add-suc, add-assoc, lt-irrefl, not-suc-le-zero, le-of-suc-le-suc, lt-of-lt-of-le, zero-lt-suc, eq-or-lt-of-le, mod-lt, pow-suc}
 use native.Mathlib.Numerals.{add-one}
 use native.Mathlib.Omega.{arith}
 use lib.Arith.{le-zero, lt-one}
@@ -12,10 +12,10 @@ use lib.Count.{ones, ones-step, ones-ones, trailingZeros, under, trailing-le}
 use lib.Dec.{eqb, ltb}
 use mir.Val.{Fits}
 use mir.Syntax.{w64}
-use borrow.Author.Tests.{lt-ltb, le-ltb, ltb-true, ltb-false}
+use borrow.Author.Tests.{lt-ltb, le-ltb}
 use Rattle.sets.specs.Tests.{_and_, _or_, neg, pick}
 use Rattle.sets.specs.Sets.{has, all, any, count, least, lowestFree, size}
-use Rattle.sets.proofs.Tests.{by-test, clash, not-so, same-test, and-i, and-l, and-r, and-fails-l, or-l, or-r, or-cases, or-fails, neg-i, neg-e, neg-false, neg-fails}
+use Rattle.sets.proofs.Tests.{clash, not-so, same-test, and-i, and-l, and-r, or-l, or-r, or-cases, neg-e, neg-false}
 use Rattle.sets.proofs.Digits.{has-low, has-half, has-not, no-digit, lt-or-le}
 
 -- ---- all

@@ -1,12 +1,12 @@
 -- The laws of tests joined: how each is shown, and what each tells.
 -- Assumes nothing.
-use mathlib.Core.Path.{_≡_, refl, sym, ap, _∙_}
+use mathlib.Core.Path.{_≡_, refl, sym, _∙_}
 use mathlib.Core.Logic.{_⊎_, inl, inr}
-use mathlib.Core.Bool.{Bool, true, false, not, true≢false, false≢true}
+use mathlib.Core.Bool.{Bool, true, false, not, true≢false}
 use Prim.Native.Nat.{ℕ}
 use lib.Dec.{eqb}
 use borrow.Author.Tests.{eq-eqb, eqb-true}
-use Rattle.sets.specs.Tests.{_and_, _or_, neg, _implies_, _iff_, pick}
+use Rattle.sets.specs.Tests.{_and_, _or_, neg, _implies_, _iff_}
 
 -- by cases on a test, with the equation
 pub by-test {ℓ} : {C : Type ℓ} (b : Bool) → (b ≡ true → C) → (b ≡ false → C) → C

@@ -1,10 +1,10 @@
-use mathlib.Core.Path.{_≡_, sym, refl, ap, _∙_}
+use mathlib.Core.Path.{_≡_, refl, _∙_}
 use Prim.Native.Nat.{ℕ}
 use mir.Val.{Fits}
 use mir.Syntax.{w64}
 use lib.ListN.{length, getD}
 use borrow.Author.Tests.{eq-eqb, ne-eqb}
-use Rattle.sets.specs.Tests.{_and_, _or_}
+use Rattle.sets.specs.Tests.{_and_}
 use Rattle.sets.proofs.Tests.{eqb-sym, or-assoc, or-false}
 use Rattle.sets.proofs.Builders.{exactly-is}
 use Rattle.order.proofs.Lists.{set-relate}

@@ -1,16 +1,14 @@
-use mathlib.Core.Path.{_≡_, sym, refl, ap, _∙_}
-use Prim.Native.Nat.{ℕ, _<_, _^_}
+use mathlib.Core.Path.{_≡_, sym, refl, _∙_}
+use Prim.Native.Nat.{ℕ}
 use mir.Val.{Fits}
 use mir.Syntax.{w64}
 use lib.ListN.{length, getD}
 use borrow.Author.Tests.{eq-eqb, ne-eqb}
 use Rattle.sets.specs.Tests.{_and_, neg}
 use Rattle.sets.proofs.Tests.{and-true}
-use Rattle.order.proofs.Lists.{set-relate, pairs-set, pairs-is}
+use Rattle.order.proofs.Lists.{set-relate}
 use Rattle.order.specs.Order.{senior}
 use Rattle.order.specs.Effects.{cut, cutEdge}
-use mathlib.Core.List.{List}
-use native.Mathlib.Omega.{arith}
 use borrow.Author.Needs.{needs}
 use Rattle.order.proofs.cut_edge.Statement.{statement}
 use Rattle.order.proofs.cut_edge.Tie as tie

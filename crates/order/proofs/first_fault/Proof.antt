@@ -1,5 +1,5 @@
 use mathlib.Core.Path.{sym, _∙_}
-use Prim.Native.Nat.{ℕ, _≤_, _-_}
+use Prim.Native.Nat.{_≤_, _-_}
 use lib.ListN.{length}
 use Rattle.order.specs.Order.{senior, faulty, firstFault}
 use Rattle.sets.proofs.Loops.{None, none-begin, none-turn, found-least, none-least}

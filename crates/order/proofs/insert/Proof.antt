@@ -1,13 +1,11 @@
-use mathlib.Core.Path.{_≡_, sym, refl, ap, _∙_}
+use mathlib.Core.Path.{_≡_, _∙_}
 use Prim.Native.Nat.{ℕ}
 use mir.Val.{Fits}
 use mir.Syntax.{w64}
 use lib.ListN.{length, getD}
-use Rattle.sets.specs.Tests.{_and_, _or_}
 use Rattle.sets.proofs.Tests.{eqb-sym}
 use Rattle.order.proofs.Lists.{pairs-is}
 use Rattle.order.specs.Order.{senior, atLeast}
-use Rattle.order.specs.Rows.{Pairs}
 use Rattle.order.specs.Effects.{inserted}
 use borrow.Author.Needs.{needs}
 use Rattle.order.proofs.insert.Statement.{statement}

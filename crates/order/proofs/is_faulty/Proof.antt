@@ -1,4 +1,4 @@
-use mathlib.Core.Path.{sym, ap, _∙_}
+use mathlib.Core.Path.{sym, _∙_}
 use Rattle.sets.proofs.Tests.{or-l, or-given}
 use Rattle.order.specs.Order.{senior, faulty}
 use Rattle.order.proofs.Lists.{lacks-faulty}

@@ -1,5 +1,4 @@
-use mathlib.Core.Path.{_≡_, sym}
-use Prim.Native.Nat.{ℕ}
+use mathlib.Core.Path.{sym}
 use Rattle.order.specs.Order.{senior}
 use Rattle.order.proofs.Lists.{senior-past, junior-past}
 use borrow.Author.Needs.{needs}

@@ -1,10 +1,7 @@
-use Rattle.sets.proofs.Loops.{none-past, None, none-begin, none-turn, found-any, none-any}
+use Rattle.sets.proofs.Loops.{none-past, None, none-begin, none-turn, found-any}
 use Rattle.order.proofs.Lists.{lacks-past}
-use mathlib.Core.Path.{_≡_, sym, _∙_}
-use mathlib.Core.Bool.{Bool}
-use mathlib.Core.List.{List}
 use mathlib.Core.Logic.{⊎-elim}
-use Prim.Native.Nat.{ℕ, _≤_, _-_}
+use Prim.Native.Nat.{_≤_, _-_}
 use borrow.Author.Tests.{not-true, not-false}
 use lib.ListN.{length, getD}
 use Rattle.sets.specs.Tests.{_and_, neg}

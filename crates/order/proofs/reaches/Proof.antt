@@ -1,6 +1,6 @@
 use mathlib.Core.Path.{sym, ap, _∙_}
 use mathlib.Core.Bool.{not}
-use Rattle.sets.specs.Tests.{_and_, _or_}
+use Rattle.sets.specs.Tests.{_and_}
 use Rattle.sets.specs.Sets.{has}
 use Rattle.sets.proofs.Tests.{not-neg, neg-neg}
 use Rattle.sets.proofs.Builders.{empty-test}

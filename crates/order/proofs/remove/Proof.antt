@@ -1,4 +1,4 @@
-use mathlib.Core.Path.{_≡_, sym, refl, ap, _∙_}
+use mathlib.Core.Path.{_≡_, sym, refl, _∙_}
 use Prim.Native.Nat.{ℕ}
 use mir.Val.{Fits}
 use mir.Syntax.{w64}

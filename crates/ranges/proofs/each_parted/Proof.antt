@@ -1,10 +1,10 @@
-use mathlib.Core.Path.{_≡_, sym, _∙_}
+use mathlib.Core.Path.{sym, _∙_}
 use mathlib.Core.Logic.{⊎-elim}
-use Prim.Native.Nat.{ℕ, _≤_, _-_}
+use Prim.Native.Nat.{_≤_, _-_}
 use borrow.Author.Tests.{not-true, not-false}
-use Rattle.sets.specs.Tests.{_implies_, neg}
+use Rattle.sets.specs.Tests.{_implies_}
 use Rattle.sets.specs.Sets.{has}
-use Rattle.sets.proofs.Tests.{implies-given, implies-not, neg-i, neg-fails, neg-e, neg-false}
+use Rattle.sets.proofs.Tests.{implies-given, implies-not}
 use Rattle.order.specs.Order.{senior}
 use Rattle.ranges.specs.Ranges.{parted}
 use Rattle.sets.proofs.Loops.{All, all-begin, all-turn, all-end, all-not}

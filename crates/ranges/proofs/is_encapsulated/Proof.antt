@@ -1,8 +1,7 @@
-use mathlib.Core.Path.{_≡_, sym, ap, _∙_}
+use mathlib.Core.Path.{_∙_}
 use Rattle.order.specs.Order.{senior, atLeast}
-use Rattle.sets.specs.Tests.{_and_, _or_, neg}
 use Rattle.sets.proofs.Tests.{eqb-sym}
-use Rattle.ranges.proofs.Laws.{Sides, encapsulated-is}
+use Rattle.ranges.proofs.Laws.{encapsulated-is}
 use borrow.Author.Needs.{needs}
 use Rattle.ranges.proofs.is_encapsulated.Statement.{statement}
 use Rattle.ranges.proofs.is_encapsulated.Tie as tie

@@ -1,12 +1,9 @@
-use mathlib.Core.Path.{sym, ap, ap₂, _∙_}
+use mathlib.Core.Path.{sym, ap, _∙_}
 use mathlib.Core.Bool.{not}
-use Rattle.sets.specs.Tests.{_and_, neg}
-use Rattle.sets.specs.Sets.{has}
-use Rattle.sets.proofs.Tests.{and-i, and-fails-l, and-fails-r, and-given, not-neg, neg-neg}
+use Rattle.sets.proofs.Tests.{and-fails-l, and-fails-r, and-given, not-neg, neg-neg}
 use Rattle.sets.proofs.Builders.{no-member, some-member, empty-test}
 use Rattle.ranges.specs.Ranges.{overlapInPart}
 use Rattle.ranges.specs.Rows.{within}
-use Rattle.ranges.proofs.Laws.{overlap-same}
 use borrow.Author.Needs.{needs}
 use Rattle.ranges.proofs.overlaps.Statement.{statement}
 use Rattle.ranges.proofs.overlaps.Tie as tie

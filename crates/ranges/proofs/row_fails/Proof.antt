@@ -1,4 +1,3 @@
-use mathlib.Core.Path.{sym, _∙_}
 use borrow.Author.Tests.{not-true, not-false}
 use Rattle.ranges.proofs.Checks.{fails-low, fails-capsule, fails-first, fails-second}
 use borrow.Author.Needs.{needs}
