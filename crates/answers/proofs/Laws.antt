@@ -20,6 +20,19 @@ fit-is {f} {g} q w = subst Fit q w
 pub fits : {o n p l : ℕ} → o < 256 → n < 256 → p < 65536 → l < 4294967296 → Fit (fields o n p l)
 fits a b c d = record { outcome = a; number = b; place = c; length = d }
 
+-- one of four, where all four are known
+pub outcome-of : {f g : Fields} → f ≡ g → f .outcome ≡ g .outcome
+outcome-of e = ap (λ (h : Fields). h .outcome) e
+
+pub number-of : {f g : Fields} → f ≡ g → f .number ≡ g .number
+number-of e = ap (λ (h : Fields). h .number) e
+
+pub place-of : {f g : Fields} → f ≡ g → f .place ≡ g .place
+place-of e = ap (λ (h : Fields). h .place) e
+
+pub length-of : {f g : Fields} → f ≡ g → f .length ≡ g .length
+length-of e = ap (λ (h : Fields). h .length) e
+
 -- the four come out again as they went in
 pub apart-packed : (f : Fields) → Fit f → apart (packed f) ≡ f
 unfolding packed apart

@@ -24,6 +24,7 @@ use Rattle.reading.proofs.Theorems.{accepted-good, refused-within}
 use Rattle.layout.specs.Layout.{policyBytes}
 use Rattle.trips.proofs.ReadWritten.{read-written-policy}
 use Rattle.answers.specs.Answers.{Fields, apart, refusal}
+use Rattle.answers.proofs.Laws.{outcome-of, length-of}
 use Rattle.entries.specs.Entries.{CheckOf, RequestOf, ListOf, QuestionOf, TableOf}
 use Rattle.entries.specs.Outcomes.{ofBadFile, checkGives, requestGives, listingGives, questionGives, tableGives}
 use Rattle.entries.specs.Steps as steps
@@ -49,9 +50,6 @@ module _ {s : List ℕ} {r t : ℕ} where
     listing-one v w = (v .answer ∙ sym (w .answer), v .bytes ∙ sym (w .bytes))
 
 -- ---- Which outcomes each entry may give.
-
-outcome-of : {f g : Fields} → f ≡ g → f .outcome ≡ g .outcome
-outcome-of e = ap (λ (h : Fields). h .outcome) e
 
 bad-number : (s : List ℕ) {c p : ℕ} → readPolicy s .how ≡ Refused c p → ofBadFile c ≡ true
 unfolding ofBadFile
@@ -176,7 +174,7 @@ request-file s x o {r} {a} w z = by (ends.request-ends s x o w)
     by (ends.bad-file q e b) = absurd (let l = refused-within s q .low in omega (arith, outcome-of e, z))
     by (ends.refused q d n e b) = absurd (n (sym (outcome-of e) ∙ z))
     by (ends.too-short q d y l e b) = absurd (omega (arith, outcome-of e, z))
-    by (ends.done q d y l e b) = (rw (← d) y, rw (ap (λ (f : Fields). f .length) e, b, ← d) (written _ _ l))
+    by (ends.done q d y l e b) = (rw (← d) y, rw (length-of e, b, ← d) (written _ _ l))
 
 pub file-reached : {start file : List ℕ} → readPolicy start .how ≡ Accepted → steps.FileReached start file
     → (readPolicy file .how ≡ Accepted) × Reached (readPolicy start .policy) (readPolicy file .policy)

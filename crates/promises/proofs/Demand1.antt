@@ -1,6 +1,6 @@
 -- Demand 1. Assumes nothing.
 use Prim.Native.Nat.{ℕ, _+_, _≤_}
-use mathlib.Core.Path.{_≡_, refl, ap}
+use mathlib.Core.Path.{_≡_, refl}
 use mathlib.Core.Bool.{true}
 use mathlib.Core.List.{List}
 use native.Mathlib.Omega.{arith}
@@ -11,7 +11,8 @@ use Rattle.requests.specs.Requests.{decide}
 use Rattle.requests.proofs.Decided.{every-request}
 use Rattle.reading.proofs.Theorems.{refused-within}
 use Rattle.parts.proofs.Laws.{found-inside}
-use Rattle.answers.specs.Answers.{Fields, apart}
+use Rattle.answers.specs.Answers.{apart}
+use Rattle.answers.proofs.Laws.{place-of, length-of}
 use Rattle.entries.specs.Entries.{CheckOf, RequestOf, ListOf, QuestionOf, TableOf}
 use Rattle.entries.specs.Outcomes.{checkGives, requestGives, listingGives, questionGives, tableGives}
 use Rattle.entries.proofs.Ends as ends
@@ -72,9 +73,6 @@ module _ {s : List ℕ} {r : ℕ} where
 
 -- No entry has a `requires`: what is above holds of any bytes, numbers and lengths. A place that is answered is one of the input's, and a part
 -- that is answered stands inside it.
-place-of : {f g : Fields} → f ≡ g → f .place ≡ g .place
-place-of e = ap (λ (h : Fields). h .place) e
-
 pub check-place : {s : List ℕ} {r : ℕ} → CheckOf s r → apart r .place ≤ length s
 check-place {s} {r} w = by (ends.check-ends s w)
   where
@@ -85,9 +83,6 @@ check-place {s} {r} w = by (ends.check-ends s w)
 pub table-inside : {s : List ℕ} {k r : ℕ} → TableOf s k r → apart r .place + apart r .length ≤ length s
 table-inside {s} {k} {r} w = by (ends.table-ends s k w)
   where
-    length-of : {f g : Fields} → f ≡ g → f .length ≡ g .length
-    length-of e = ap (λ (h : Fields). h .length) e
-
     by : ends.TableEnds s k r → apart r .place + apart r .length ≤ length s
     by (ends.no-table q e) = omega (arith, place-of e, length-of e)
     by (ends.bad-file t q e) = omega (arith, place-of e, length-of e, refused-within s q .place)

@@ -32,16 +32,11 @@ use Rattle.trips.proofs.WrittenRead.{written-read-policy}
 use Rattle.trips.proofs.Refusals.{RefusedBy, refused-by, refused-if}
 use Rattle.listing.specs.Listing.{entryCount}
 use Rattle.listing.proofs.Promised.{enough}
-use Rattle.answers.specs.Answers.{Fields, apart, ofReply}
+use Rattle.answers.specs.Answers.{apart, ofReply}
+use Rattle.answers.proofs.Laws.{outcome-of, number-of, place-of, length-of}
 use Rattle.entries.specs.Entries.{RequestOf, ListOf, QuestionOf, TableOf}
 use Rattle.entries.proofs.Ends as ends
 use Rattle.entries.proofs.Promised.{request-file}
-
-outcome-of : {f g : Fields} → f ≡ g → f .outcome ≡ g .outcome
-outcome-of e = ap (λ (h : Fields). h .outcome) e
-
-place-of : {f g : Fields} → f ≡ g → f .place ≡ g .place
-place-of e = ap (λ (h : Fields). h .place) e
 
 -- "Each accepted request gives exactly the policy that the rules define"
 
@@ -70,7 +65,7 @@ module _ {s : List ℕ} {x : Request} {o a : List ℕ} {r : ℕ} (w : RequestOf 
         by (ends.bad-file q e b) = absurd (let l = refused-within s q .low in omega (arith, outcome-of e, z))
         by (ends.refused q d n e b) = absurd (n (sym (outcome-of e) ∙ z))
         by (ends.too-short q d y l e b) = absurd (omega (arith, outcome-of e, z))
-        by (ends.done q d y l e b) = ap (λ (h : Fields). h .number) e ∙ ap (λ (h : Answer). h .number) d
+        by (ends.done q d y l e b) = number-of e ∙ ap (λ (h : Answer). h .number) d
 
     -- and later bytes stay
     pub later-stay : (k : ℕ) → apart r .length ≤ k → getD a k 0 ≡ getD o k 0
@@ -81,7 +76,7 @@ module _ {s : List ℕ} {x : Request} {o a : List ℕ} {r : ℕ} (w : RequestOf 
         by (ends.refused q d n e b) = ap (λ (l : List ℕ). getD l k 0) b
         by (ends.too-short q d y l e b) = ap (λ (l : List ℕ). getD l k 0) b
         by (ends.done q d y l e b) =
-            let m = ap (λ (f : Fields). f .length) e in
+            let m = length-of e in
             ap (λ (l : List ℕ). getD l k 0) b ∙ sets-after (policyBytes _) o 0 k (omega (arith, m, h))
 
   -- "each refusal is given exactly when its condition is the first that holds."

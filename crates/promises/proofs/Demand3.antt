@@ -25,15 +25,13 @@ use Rattle.reading.proofs.Theorems.{accepted-good, refused-within}
 use Rattle.listing.specs.Listing.{accepts, entryCount, listingBytes}
 use Rattle.listing.proofs.Entries.{EntryIs, Before}
 use Rattle.listing.proofs.Promised.{Listed, bytes-long, listed-accepted, exactly, ascending, listed-safe, listed-good, Outside, untouched}
-use Rattle.answers.specs.Answers.{Fields, apart}
+use Rattle.answers.specs.Answers.{apart}
+use Rattle.answers.proofs.Laws.{outcome-of, length-of}
 use Rattle.entries.specs.Entries.{RequestOf, ListOf}
 use Rattle.entries.specs.Steps.{FileReached}
 use Rattle.entries.proofs.Ends as ends
 use Rattle.entries.proofs.Promised.{byte-in, file-reached}
 use Rattle.promises.proofs.Demand2.{accepted-only, room-enough, accepted-policy}
-
-outcome-of : {f g : Fields} → f ≡ g → f .outcome ≡ g .outcome
-outcome-of e = ap (λ (h : Fields). h .outcome) e
 
 -- "In every policy reached from a loaded one, for every officer": start is a file that was loaded, file one that requests reach from it, s its
 -- policy, a the buffer after the listing's entry was asked and accepted.
@@ -56,7 +54,7 @@ module _ {start file : List ℕ} (ok : readPolicy start .how ≡ Accepted) (way 
       by (ends.bad-file q e b) = absurd (let l = refused-within file q .low in omega (arith, outcome-of e, z))
       by (ends.unknown q d l e b) = absurd (omega (arith, outcome-of e, z))
       by (ends.too-short q d k l e b) = absurd (omega (arith, outcome-of e, z))
-      by (ends.done q d k l e b) = ap (λ (f : Fields). f .length) e ∙ ap (λ (p : Policy). entryCount p officer) d
+      by (ends.done q d k l e b) = length-of e ∙ ap (λ (p : Policy). entryCount p officer) d
 
   filled : (3 * entryCount s officer ≤ length o) × (a ≡ sets o 0 (listingBytes s officer))
   filled = by (ends.listing-ends file officer o w)

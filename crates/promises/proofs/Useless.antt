@@ -32,7 +32,8 @@ use Rattle.reading.specs.File.{oneAt, frontAt, restAt, judge, fileAt, readPolic
 use Rattle.layout.specs.Layout.{sectionsBytes, policyBytes}
 use Rattle.listing.specs.Listing.{entryCount}
 use Rattle.listing.proofs.Entries.{EntryIs}
-use Rattle.answers.specs.Answers.{Fields, apart}
+use Rattle.answers.specs.Answers.{apart}
+use Rattle.answers.proofs.Laws.{outcome-of}
 use Rattle.entries.specs.Entries.{RequestOf, ListOf}
 use Rattle.entries.specs.Steps.{here, next}
 use Rattle.entries.proofs.Ends as ends
@@ -51,7 +52,7 @@ edge = ask 0 7 1 2
 abbrev given : Policy
 given = readPolicy example .policy
 
--- it is a policy file, the request is accepted, and on the policy after it the same request is refused with 5
+-- it is a policy file with one user, the request is accepted, and on the policy after it the same request is refused with 5
 facts : (readPolicy example .how ≡ Accepted) × (decide given edge .outcome ≡ 0) × (decide (decide given edge .policy) edge .outcome ≡ 5) × (given .people .users .count ≡ 1)
 unfolding readPolicy fileAt judge restAt frontAt oneAt notStrict someLow someOpen twoOverlap fault rangeAt conditionAt rowAt rowStep tableAt rangeStep rangesAt numbers juniorStep juniorsAt orderAt userStep peopleAt memberStep membersAt setAt countAt memberAt run lastOf valueOf isLong isOver endsWith numAt first answer within lowNotJunior notEncapsulated overlap unsound inside encapsulated overlapInPart senior atLeast reaches reached comparable tabFrom relate faulty inserted insert has all any least setOf subset lowestFree size site edgeIn rowAllows mayModify unknownRole unknownPair spoils insertRules insertEdge decide _and_ _or_ neg _implies_ _iff_
 facts = (refl, refl, refl, refl)
@@ -125,8 +126,8 @@ module _ (f : List ℕ → Request → List ℕ → ℕ × List ℕ) (meets : (s
 
       by : ends.RequestEnds example edge room (f example edge room .0) (f example edge room .1) → ⊥
       by (ends.bad-file q e b) = absurd (let z : _≡_ {A = ℕ} 0 1 = let p = facts .0 in cc in omega arith)
-      by (ends.refused q d n e b) = n (sym (ap (λ (g : Fields). g .outcome) e) ∙ ok)
-      by (ends.too-short q d y l e b) = omega (arith, ap (λ (g : Fields). g .outcome) e, ok)
+      by (ends.refused q d n e b) = n (sym (outcome-of e) ∙ ok)
+      by (ends.too-short q d y l e b) = omega (arith, outcome-of e, ok)
       by (ends.done {d = d} q x y l e b) = first-byte (d .policy) l b
 
 -- handling the first request and echoing later ones: the second request is asked on what the first left, and gets the first one's answer
