@@ -26,8 +26,10 @@
 extern "C" {
 #endif
 
-/* The first of these whose condition holds, in the order of the numbers, save that a bad
- * file's 20 to 27 comes before all but AESTILUMNE_NO_TABLE. */
+/* A bad file's 20 to 27 comes before all others but AESTILUMNE_NO_TABLE: 20 to 22 for the first
+ * number of the file that fails, then 27, then the first of 23 to 26 that holds. Then the first
+ * of 1 to 10 that holds. A bad file has a place: 20 the input's length, 21 and 22 the number's
+ * first byte, 27 the first byte left over, 23 to 26 always 0. */
 enum aestilumne_outcome {
     AESTILUMNE_ACCEPTED = 0,
 
