@@ -24,33 +24,32 @@ static uint64_t ask_reference(const struct call *c, uint8_t *out, size_t out_n)
     }
 }
 
-static uint64_t ask_archive(const struct call *c, uint8_t *out, size_t out_n)
-{
-    const struct request *q = &c->q;
-    switch (c->entry) {
-    case QUESTION:
-        return aestilumne_question(c->file, c->n, q->officer, q->a);
-    case REQUEST:
-        return aestilumne_request(c->file, c->n, q->officer, q->kind, q->a, q->b, out, out_n);
-    case LISTING:
-        return aestilumne_listing(c->file, c->n, q->officer, out, out_n);
-    default:
-        return aestilumne_check(c->file, c->n);
-    }
-}
+/* The archive and the plain version have the same four functions. */
+struct entries {
+    uint64_t (*check)(const uint8_t *, size_t);
+    uint64_t (*question)(const uint8_t *, size_t, uint64_t, uint64_t);
+    uint64_t (*request)(const uint8_t *, size_t, uint64_t, uint64_t, uint64_t, uint64_t,
+                        uint8_t *, size_t);
+    uint64_t (*listing)(const uint8_t *, size_t, uint64_t, uint8_t *, size_t);
+};
 
-static uint64_t ask_plain(const struct call *c, uint8_t *out, size_t out_n)
+static const struct entries archive = {aestilumne_check, aestilumne_question,
+                                       aestilumne_request, aestilumne_listing};
+static const struct entries plain = {plain_check, plain_question, plain_request, plain_listing};
+
+static uint64_t ask_entries(const struct entries *e, const struct call *c, uint8_t *out,
+                            size_t out_n)
 {
     const struct request *q = &c->q;
     switch (c->entry) {
     case QUESTION:
-        return plain_question(c->file, c->n, q->officer, q->a);
+        return e->question(c->file, c->n, q->officer, q->a);
     case REQUEST:
-        return plain_request(c->file, c->n, q->officer, q->kind, q->a, q->b, out, out_n);
+        return e->request(c->file, c->n, q->officer, q->kind, q->a, q->b, out, out_n);
     case LISTING:
-        return plain_listing(c->file, c->n, q->officer, out, out_n);
+        return e->listing(c->file, c->n, q->officer, out, out_n);
     default:
-        return plain_check(c->file, c->n);
+        return e->check(c->file, c->n);
     }
 }
 
@@ -58,9 +57,7 @@ uint64_t ask(enum program program, const struct call *c, uint8_t *out, size_t ou
 {
     if (program == REFERENCE)
         return ask_reference(c, out, out_n);
-    if (program == ARCHIVE)
-        return ask_archive(c, out, out_n);
-    return ask_plain(c, out, out_n);
+    return ask_entries(program == ARCHIVE ? &archive : &plain, c, out, out_n);
 }
 
 /* ---- Comparing ---- */
