@@ -1,5 +1,5 @@
 -- What the entries promise, for any bytes and numbers. Assumes nothing.
-use Prim.Native.Nat.{ℕ, _+_, _≤_, _<_}
+use Prim.Native.Nat.{ℕ, _+_, _*_, _≤_, _<_}
 use mathlib.Core.Path.{_≡_, refl, sym, ap, _∙_, subst}
 use mathlib.Core.Bool.{true, false}
 use mathlib.Core.List.{List}
@@ -9,6 +9,7 @@ use lib.ListN.{length, getD}
 use lib.Seq.{sets}
 use Rattle.sets.specs.Tests.{_and_, _or_}
 use Rattle.sets.proofs.Tests.{clash, and-i, or-l, or-r}
+use Rattle.policy.specs.declared.Policy.{Policy}
 use Rattle.policy.specs.declared.Answer.{Answer}
 use Rattle.requests.specs.declared.Request.{Request}
 use Rattle.requests.specs.Requests.{decide}
@@ -23,8 +24,9 @@ use Rattle.reading.specs.File.{readPolicy}
 use Rattle.reading.proofs.Theorems.{accepted-good, refused-within}
 use Rattle.layout.specs.Layout.{policyBytes}
 use Rattle.trips.proofs.ReadWritten.{read-written-policy}
+use Rattle.listing.specs.Listing.{entryCount, listingBytes}
 use Rattle.answers.specs.Answers.{Fields, apart, refusal}
-use Rattle.answers.proofs.Laws.{outcome-of, length-of}
+use Rattle.answers.proofs.Laws.{outcome-of, number-of, length-of}
 use Rattle.entries.specs.Entries.{CheckOf, RequestOf, ListOf, QuestionOf, TableOf}
 use Rattle.entries.specs.Outcomes.{ofBadFile, checkGives, requestGives, listingGives, questionGives, tableGives}
 use Rattle.entries.specs.Steps as steps
@@ -153,6 +155,45 @@ module _ (s : List ℕ) {o a : List ℕ} {r : ℕ} (n : apart r .outcome ≡ 0 �
       by (ends.too-short q d k l e b) = (any-refusal e, b)
       by (ends.done q d k l e b) = absurd (n (outcome-of e))
 
+-- ---- What is accepted: an outcome of 0 leaves one way in which the entry has ended.
+
+-- d is what was decided, s the file, o and a the buffer before and after
+pub record RequestDone (s o : List ℕ) (d : Answer) (r : ℕ) (a : List ℕ) : Type 0 where
+  pub loaded : readPolicy s .how ≡ Accepted
+  pub outcome : d .outcome ≡ 0
+  pub number : apart r .number ≡ d .number
+  pub count : apart r .length ≡ length (policyBytes (d .policy))
+  pub room : length (policyBytes (d .policy)) ≤ length o
+  pub bytes : a ≡ sets o 0 (policyBytes (d .policy))
+
+pub request-done : (s : List ℕ) (x : Request) (o : List ℕ) {r : ℕ} {a : List ℕ} → RequestOf s x o r a → apart r .outcome ≡ 0
+    → RequestDone s o (decide (readPolicy s .policy) x) r a
+request-done s x o {r} {a} w z = by (ends.request-ends s x o w)
+  where
+    by : ends.RequestEnds s x o r a → RequestDone s o (decide (readPolicy s .policy) x) r a
+    by (ends.bad-file q e b) = absurd (let l = refused-within s q .low in omega (arith, outcome-of e, z))
+    by (ends.refused q d n e b) = absurd (n (sym (outcome-of e) ∙ z))
+    by (ends.too-short q d y l e b) = absurd (omega (arith, outcome-of e, z))
+    by (ends.done {d = k} q d y l e b) =
+        subst (λ (h : Answer). RequestDone s o h r a) d
+        (record { loaded = q; outcome = y; number = number-of e; count = length-of e; room = l; bytes = b })
+
+pub record ListingDone (p : Policy) (officer : ℕ) (o : List ℕ) (r : ℕ) (a : List ℕ) : Type 0 where
+  pub count : apart r .length ≡ entryCount p officer
+  pub room : 3 * entryCount p officer ≤ length o
+  pub bytes : a ≡ sets o 0 (listingBytes p officer)
+
+pub listing-done : (s : List ℕ) (officer : ℕ) (o : List ℕ) {r : ℕ} {a : List ℕ} → ListOf s officer o r a → apart r .outcome ≡ 0
+    → ListingDone (readPolicy s .policy) officer o r a
+listing-done s officer o {r} {a} w z = by (ends.listing-ends s officer o w)
+  where
+    by : ends.ListEnds s officer o r a → ListingDone (readPolicy s .policy) officer o r a
+    by (ends.bad-file q e b) = absurd (let l = refused-within s q .low in omega (arith, outcome-of e, z))
+    by (ends.unknown q d l e b) = absurd (omega (arith, outcome-of e, z))
+    by (ends.too-short q d k l e b) = absurd (omega (arith, outcome-of e, z))
+    by (ends.done q d k l e b) =
+        subst (λ (h : Policy). ListingDone h officer o r a) d (record { count = length-of e; room = l; bytes = b })
+
 -- ---- Any sequence of requests from a loaded file.
 
 -- what is written stands in the buffer
@@ -166,22 +207,15 @@ written bs o l =
 
 -- the buffer up to the length that is returned is the file of the policy after the request
 pub request-file : (s : List ℕ) (x : Request) (o : List ℕ) {r : ℕ} {a : List ℕ} → RequestOf s x o r a → apart r .outcome ≡ 0
-    → (decide (readPolicy s .policy) x .outcome ≡ 0) × (part a 0 (apart r .length) ≡ policyBytes (decide (readPolicy s .policy) x .policy))
-request-file s x o {r} {a} w z = by (ends.request-ends s x o w)
-  where
-    by : ends.RequestEnds s x o r a
-        → (decide (readPolicy s .policy) x .outcome ≡ 0) × (part a 0 (apart r .length) ≡ policyBytes (decide (readPolicy s .policy) x .policy))
-    by (ends.bad-file q e b) = absurd (let l = refused-within s q .low in omega (arith, outcome-of e, z))
-    by (ends.refused q d n e b) = absurd (n (sym (outcome-of e) ∙ z))
-    by (ends.too-short q d y l e b) = absurd (omega (arith, outcome-of e, z))
-    by (ends.done q d y l e b) = (rw (← d) y, rw (length-of e, b, ← d) (written _ _ l))
+    → part a 0 (apart r .length) ≡ policyBytes (decide (readPolicy s .policy) x .policy)
+request-file s x o w z = let d = request-done s x o w z in rw (d .count, d .bytes) (written _ _ (d .room))
 
 pub file-reached : {start file : List ℕ} → readPolicy start .how ≡ Accepted → steps.FileReached start file
     → (readPolicy file .how ≡ Accepted) × Reached (readPolicy start .policy) (readPolicy file .policy)
 file-reached ok steps.here = (ok, here)
 file-reached ok (steps.next {file = file} {before = before} x run w z) =
     let (fine, way) = file-reached ok run in
-    let f = request-file file x before w z .1 in
+    let f = request-file file x before w z in
     let g = every-request (readPolicy file .policy) x .good (accepted-good file fine) in
     let l = read-written-policy (decide (readPolicy file .policy) x .policy) g in
     rw (f, l) (refl, next x way)

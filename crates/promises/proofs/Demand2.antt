@@ -33,51 +33,31 @@ use Rattle.trips.proofs.Refusals.{RefusedBy, refused-by, refused-if}
 use Rattle.listing.specs.Listing.{entryCount}
 use Rattle.listing.proofs.Promised.{enough}
 use Rattle.answers.specs.Answers.{apart, ofReply}
-use Rattle.answers.proofs.Laws.{outcome-of, number-of, place-of, length-of}
+use Rattle.answers.proofs.Laws.{outcome-of, place-of}
 use Rattle.entries.specs.Entries.{RequestOf, ListOf, QuestionOf, TableOf}
 use Rattle.entries.proofs.Ends as ends
-use Rattle.entries.proofs.Promised.{request-file}
+use Rattle.entries.proofs.Promised.{RequestDone, request-done, request-file}
 
 -- "Each accepted request gives exactly the policy that the rules define"
 
 module _ {s : List ℕ} {x : Request} {o a : List ℕ} {r : ℕ} (w : RequestOf s x o r a) where
   module _ (z : apart r .outcome ≡ 0) where
-    was-good : Good (readPolicy s .policy)
-    was-good = by (ends.request-ends s x o w)
-      where
-        by : ends.RequestEnds s x o r a → Good (readPolicy s .policy)
-        by (ends.bad-file q e b) = absurd (let l = refused-within s q .low in omega (arith, outcome-of e, z))
-        by (ends.refused q d n e b) = accepted-good s q
-        by (ends.too-short q d y l e b) = accepted-good s q
-        by (ends.done q d y l e b) = accepted-good s q
+    done : RequestDone s o (decide (readPolicy s .policy) x) r a
+    done = request-done s x o w z
 
     -- what stands in the buffer, up to the length that is answered, is read as the policy after the request
     pub accepted-policy : readPolicy (part a 0 (apart r .length)) ≡ record { how = Accepted; policy = decide (readPolicy s .policy) x .policy }
     accepted-policy =
-        rw (request-file s x o w z .1)
-        (read-written-policy (decide (readPolicy s .policy) x .policy) (every-request (readPolicy s .policy) x .good was-good))
+        rw (request-file s x o w z)
+        (read-written-policy (decide (readPolicy s .policy) x .policy) (every-request (readPolicy s .policy) x .good (accepted-good s (done .loaded))))
 
     -- with the number that the rules give
     pub accepted-number : apart r .number ≡ decide (readPolicy s .policy) x .number
-    accepted-number = by (ends.request-ends s x o w)
-      where
-        by : ends.RequestEnds s x o r a → apart r .number ≡ decide (readPolicy s .policy) x .number
-        by (ends.bad-file q e b) = absurd (let l = refused-within s q .low in omega (arith, outcome-of e, z))
-        by (ends.refused q d n e b) = absurd (n (sym (outcome-of e) ∙ z))
-        by (ends.too-short q d y l e b) = absurd (omega (arith, outcome-of e, z))
-        by (ends.done q d y l e b) = number-of e ∙ ap (λ (h : Answer). h .number) d
+    accepted-number = done .number
 
     -- and later bytes stay
     pub later-stay : (k : ℕ) → apart r .length ≤ k → getD a k 0 ≡ getD o k 0
-    later-stay k h = by (ends.request-ends s x o w)
-      where
-        by : ends.RequestEnds s x o r a → getD a k 0 ≡ getD o k 0
-        by (ends.bad-file q e b) = ap (λ (l : List ℕ). getD l k 0) b
-        by (ends.refused q d n e b) = ap (λ (l : List ℕ). getD l k 0) b
-        by (ends.too-short q d y l e b) = ap (λ (l : List ℕ). getD l k 0) b
-        by (ends.done q d y l e b) =
-            let m = length-of e in
-            ap (λ (l : List ℕ). getD l k 0) b ∙ sets-after (policyBytes _) o 0 k (omega (arith, m, h))
+    later-stay k h = ap (λ (l : List ℕ). getD l k 0) (done .bytes) ∙ sets-after (policyBytes (decide (readPolicy s .policy) x .policy)) o 0 k (omega (arith, done .count, h))
 
   -- "each refusal is given exactly when its condition is the first that holds."
 

@@ -7,7 +7,6 @@ use mathlib.Core.List.{List}
 use native.Mathlib.Omega.{arith}
 use borrow.Author.Tests.{eqb-true, eq-eqb}
 use lib.ListN.{length, getD}
-use lib.Seq.{sets}
 use Rattle.sets.specs.Sets.{has}
 use Rattle.order.specs.Order.{senior}
 use Rattle.policy.specs.declared.Policy.{Policy}
@@ -21,16 +20,14 @@ use Rattle.number.specs.Number.{part}
 use Rattle.reading.specs.declared.How.the-variants.{Accepted}
 use Rattle.reading.specs.declared.Loaded.{Loaded}
 use Rattle.reading.specs.File.{readPolicy}
-use Rattle.reading.proofs.Theorems.{accepted-good, refused-within}
+use Rattle.reading.proofs.Theorems.{accepted-good}
 use Rattle.listing.specs.Listing.{accepts, entryCount, listingBytes}
 use Rattle.listing.proofs.Entries.{EntryIs, Before}
 use Rattle.listing.proofs.Promised.{Listed, bytes-long, listed-accepted, exactly, ascending, listed-safe, listed-good, Outside, untouched}
 use Rattle.answers.specs.Answers.{apart}
-use Rattle.answers.proofs.Laws.{outcome-of, length-of}
 use Rattle.entries.specs.Entries.{RequestOf, ListOf}
 use Rattle.entries.specs.Steps.{FileReached}
-use Rattle.entries.proofs.Ends as ends
-use Rattle.entries.proofs.Promised.{byte-in, file-reached}
+use Rattle.entries.proofs.Promised.{ListingDone, listing-done, byte-in, file-reached}
 use Rattle.promises.proofs.Demand2.{accepted-only, room-enough, accepted-policy}
 
 -- "In every policy reached from a loaded one, for every officer": start is a file that was loaded, file one that requests reach from it, s its
@@ -46,30 +43,17 @@ module _ {start file : List ℕ} (ok : readPolicy start .how ≡ Accepted) (way 
   good : Good s
   good = accepted-good file loaded
 
-  -- the count and the bytes
-  pub counted : apart r .length ≡ entryCount s officer
-  counted = by (ends.listing-ends file officer o w)
-    where
-      by : ends.ListEnds file officer o r a → apart r .length ≡ entryCount s officer
-      by (ends.bad-file q e b) = absurd (let l = refused-within file q .low in omega (arith, outcome-of e, z))
-      by (ends.unknown q d l e b) = absurd (omega (arith, outcome-of e, z))
-      by (ends.too-short q d k l e b) = absurd (omega (arith, outcome-of e, z))
-      by (ends.done q d k l e b) = length-of e ∙ ap (λ (p : Policy). entryCount p officer) d
+  done : ListingDone s officer o r a
+  done = listing-done file officer o w z
 
-  filled : (3 * entryCount s officer ≤ length o) × (a ≡ sets o 0 (listingBytes s officer))
-  filled = by (ends.listing-ends file officer o w)
-    where
-      by : ends.ListEnds file officer o r a → (3 * entryCount s officer ≤ length o) × (a ≡ sets o 0 (listingBytes s officer))
-      by (ends.bad-file q e b) = absurd (let l = refused-within file q .low in omega (arith, outcome-of e, z))
-      by (ends.unknown q d l e b) = absurd (omega (arith, outcome-of e, z))
-      by (ends.too-short q d k l e b) = absurd (omega (arith, outcome-of e, z))
-      by (ends.done q d k l e b) =
-          (rw (← d) l, b ∙ ap (λ (p : Policy). sets o 0 (listingBytes p officer)) d)
+  -- the count
+  pub counted : apart r .length ≡ entryCount s officer
+  counted = done .count
 
   same-byte : (i : ℕ) → i < 3 * entryCount s officer → getD a i 0 ≡ getD (listingBytes s officer) i 0
   same-byte i l =
       let m = bytes-long s officer in
-      ap (λ (b : List ℕ). getD b i 0) (filled .1) ∙ byte-in (listingBytes s officer) o i (omega (arith, m, filled .0)) (omega (arith, m))
+      ap (λ (b : List ℕ). getD b i 0) (done .bytes) ∙ byte-in (listingBytes s officer) o i (omega (arith, m, done .room)) (omega (arith, m))
 
   in-listing : {n k x y : ℕ} → n < apart r .length → EntryIs a n k x y → Listed s officer n k x y
   in-listing {n} l e =
