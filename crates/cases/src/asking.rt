@@ -3,7 +3,7 @@ ghost use mathlib.Core.Path.{_≡_};
 ghost use mathlib.Core.Bool.{true};
 ghost use Rattle.policy.specs.Good.{Sizes};
 ghost use Rattle.requests.specs.Requests.{decide};
-ghost use Rattle.requests.specs.Examples.{ask};
+ghost use Rattle.requests.specs.Requests.{ask};
 use policy::Answer;
 use policy::Policy;
 use policy::refused;

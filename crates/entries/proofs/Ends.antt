@@ -62,7 +62,7 @@ pub data ListEnds (s : List ℕ) (officer : ℕ) (o : List ℕ) (r : ℕ) (a : L
   too-short : {p : Policy} → readPolicy s .how ≡ Accepted → p ≡ readPolicy s .policy → officer < p .people .users .count
       → length o < 3 * entryCount p officer → apart r ≡ refusal 10 0 → a ≡ o → ListEnds s officer o r a
   done : {p : Policy} → readPolicy s .how ≡ Accepted → p ≡ readPolicy s .policy → officer < p .people .users .count
-      → 3 * entryCount p officer ≤ length o → apart r ≡ fields 0 0 0 (entryCount p officer) → a ≡ sets o 0 (listing.listingBytes p officer)
+      → 3 * entryCount p officer ≤ length o → apart r ≡ fields 0 0 0 (entryCount p officer) → a ≡ sets o 0 (listing.entriesFor p officer)
       → ListEnds s officer o r a
 
 pub data QuestionEnds (s : List ℕ) (user permission : ℕ) (r : ℕ) : Type 0 where

@@ -24,11 +24,11 @@ use Rattle.reading.specs.File.{readPolicy}
 use Rattle.reading.proofs.Theorems.{accepted-good, refused-within}
 use Rattle.layout.specs.Layout.{policyBytes}
 use Rattle.trips.proofs.ReadWritten.{read-written-policy}
-use Rattle.listing.specs.Listing.{entryCount, listingBytes}
+use Rattle.listing.specs.Listing.{entryCount, entriesFor}
 use Rattle.answers.specs.Answers.{Fields, apart, refusal}
 use Rattle.answers.proofs.Laws.{outcome-of, number-of, length-of}
 use Rattle.entries.specs.Entries.{CheckOf, RequestOf, ListOf, QuestionOf, TableOf}
-use Rattle.entries.specs.Outcomes.{ofBadFile, checkGives, requestGives, listingGives, questionGives, tableGives}
+use Rattle.entries.specs.Outcomes.{ofBadFile, Refusal, checkGives, requestGives, listingGives, questionGives, tableGives}
 use Rattle.entries.specs.Steps as steps
 use Rattle.entries.proofs.Ends as ends
 
@@ -87,11 +87,18 @@ module _ (s : List ℕ) where
   unfolding requestGives
   request-gives x o {r} {a} w = by (ends.request-ends s x o w)
     where
+      -- the rule of the constant table, for what was decided, and for acceptance
+      in-table : {d : Answer} → d ≡ decide (readPolicy s .policy) x → mayGive (x .kind) (d .outcome) ≡ true
+      in-table d = rw d (outcome-given (readPolicy s .policy) x)
+
+      accepted : {d : Answer} → d ≡ decide (readPolicy s .policy) x → d .outcome ≡ 0 → mayGive (x .kind) 0 ≡ true
+      accepted d z = rw z at (in-table d)
+
       by : ends.RequestEnds s x o r a → requestGives (x .kind) (apart r .outcome) ≡ true
       by (ends.bad-file q e b) = rw (outcome-of e) (or-l _ _ (bad-number s q))
-      by (ends.refused q d n e b) = rw (outcome-of e) (or-r _ _ (or-l _ _ (rw d (outcome-given (readPolicy s .policy) x))))
-      by (ends.too-short q d z l e b) = rw (outcome-of e) (or-r _ _ (or-r _ _ refl))
-      by (ends.done q d z l e b) = rw (outcome-of e) (or-r _ _ (or-l _ _ (subst (λ m. mayGive (x .kind) m ≡ true) (sym (ap (λ (y : Answer). y .outcome) d) ∙ z) (outcome-given (readPolicy s .policy) x))))
+      by (ends.refused q d n e b) = rw (outcome-of e) (or-r _ _ (or-l _ _ (in-table d)))
+      by (ends.too-short q d z l e b) = rw (outcome-of e) (or-r _ _ (or-r _ _ (and-i _ _ (accepted d z) refl)))
+      by (ends.done q d z l e b) = rw (outcome-of e) (or-r _ _ (or-l _ _ (accepted d z)))
 
   pub listing-gives : (officer : ℕ) (o : List ℕ) {r : ℕ} {a : List ℕ} → ListOf s officer o r a → listingGives (apart r .outcome) ≡ true
   unfolding listingGives
@@ -122,12 +129,7 @@ module _ (s : List ℕ) where
       by (ends.bad-file k q e) = rw (outcome-of e) (or-l _ _ (bad-number s q))
       by (ends.done q e) = rw (outcome-of e) (table-some .0)
 
--- ---- A refusal: "with length 0, role number 0 and, for a bad file, its place (else 0), and nothing is written".
-
-pub record Refusal (f : Fields) : Type 0 where
-  pub number : f .number ≡ 0
-  pub length : f .length ≡ 0
-  pub place : ofBadFile (f .outcome) ≡ false → f .place ≡ 0
+-- ---- A refusal.
 
 -- one of a bad file, and any other
 bad-refusal : (s : List ℕ) {c p : ℕ} {f : Fields} → readPolicy s .how ≡ Refused c p → f ≡ refusal c p → Refusal f
@@ -181,7 +183,7 @@ request-done s x o {r} {a} w z = by (ends.request-ends s x o w)
 pub record ListingDone (p : Policy) (officer : ℕ) (o : List ℕ) (r : ℕ) (a : List ℕ) : Type 0 where
   pub count : apart r .length ≡ entryCount p officer
   pub room : 3 * entryCount p officer ≤ length o
-  pub bytes : a ≡ sets o 0 (listingBytes p officer)
+  pub bytes : a ≡ sets o 0 (entriesFor p officer)
 
 pub listing-done : (s : List ℕ) (officer : ℕ) (o : List ℕ) {r : ℕ} {a : List ℕ} → ListOf s officer o r a → apart r .outcome ≡ 0
     → ListingDone (readPolicy s .policy) officer o r a

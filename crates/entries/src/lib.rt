@@ -1,5 +1,5 @@
 // What C calls: numbers and byte slices in, one number out. Each entry reads the file it is given, and assumes nothing of any input.
-ghost use Rattle.requests.specs.Examples.{ask};
+ghost use Rattle.requests.specs.Requests.{ask};
 ghost use Rattle.entries.specs.Entries.{CheckOf, RequestOf, ListOf, QuestionOf, TableOf};
 use answers::carry_out;
 use answers::of_file;

@@ -4,6 +4,7 @@ use mathlib.Core.Path.{_≡_, refl, sym, ap, subst}
 use mathlib.Core.Bool.{Bool, true, false}
 use Prim.Native.Nat.{ℕ, _<_, _≤_, _^_}
 use borrow.Author.Tests.{eqb-false}
+use Rattle.sets.specs.Tests.{_and_, neg}
 use Rattle.sets.specs.Sets.{lowestFree}
 use Rattle.sets.proofs.Tests.{neg-false}
 use Rattle.sets.proofs.Digits.{has-below}
@@ -11,8 +12,8 @@ use Rattle.order.specs.Order.{comparable, edge}
 use Rattle.order.specs.Effects.{create, insert, cutEdge}
 use Rattle.policy.specs.declared.Policy.{Policy}
 use Rattle.policy.specs.Outcome.{first}
-use Rattle.policy.proofs.Outcomes.{zero-head, zero-rest}
 use Rattle.hierarchy.specs.declared.Site.{Site}
+use Rattle.policy.proofs.Outcomes.{condition, nonzero, passed}
 use Rattle.hierarchy.proofs.Laws.{known-role, first-below, second-below, new-below}
 use Rattle.hierarchy.specs.Rules.{site, over, mayModify, unknownRole, unknownPair, full, newRole, spoils, createRules, deleteRules, insertRules, cutRules}
 
@@ -24,18 +25,15 @@ pub record CreateOk (s : Site) (a b : ℕ) : Type 0 where
   pub sound : spoils s (create (s .roles) (newRole s) a b) ≡ false
 
 pub create-ok : (s : Site) (a b : ℕ) → first (createRules s a b) ≡ 0 → CreateOk s a b
-unfolding createRules
+unfolding createRules condition nonzero _and_ neg
 create-ok s a b e =
-    let e2 = zero-rest _ _ _ refl e in
-    let e3 = zero-rest _ _ _ refl e2 in
-    let e4 = zero-rest _ _ _ refl e3 in
-    let e5 = zero-rest _ _ _ refl e4 in
+    let at : (n : ℕ) → condition n (createRules s a b) ≡ false = λ n. passed n (createRules s a b) refl e in
     record {
-      known = zero-head _ _ _ refl e;
-      may = neg-false _ (zero-head _ _ _ refl e2);
-      senior = neg-false _ (zero-head _ _ _ refl e3);
-      room = zero-head _ _ _ refl e4;
-      sound = zero-head _ _ _ refl e5;
+      known = at 2;
+      may = neg-false _ (at 3);
+      senior = neg-false _ (at 5);
+      room = at 6;
+      sound = at 9;
     }
 
 pub record DeleteOk (s : Site) (names members : Bool) (a b : ℕ) : Type 0 where
@@ -45,17 +43,14 @@ pub record DeleteOk (s : Site) (names members : Bool) (a b : ℕ) : Type 0 where
   pub empty : members ≡ false
 
 pub delete-ok : (s : Site) (names members : Bool) (a b : ℕ) → first (deleteRules s names members a b) ≡ 0 → DeleteOk s names members a b
-unfolding deleteRules
+unfolding deleteRules condition nonzero _and_ neg
 delete-ok s names members a b e =
-    let e2 = zero-rest _ _ _ refl e in
-    let e3 = zero-rest _ _ _ refl e2 in
-    let e4 = zero-rest _ _ _ refl e3 in
-    let e5 = zero-rest _ _ _ refl e4 in
+    let at : (n : ℕ) → condition n (deleteRules s names members a b) ≡ false = λ n. passed n (deleteRules s names members a b) refl e in
     record {
-      known = zero-head _ _ _ refl e2;
-      may = neg-false _ (zero-head _ _ _ refl e3);
-      unnamed = zero-head _ _ _ refl e4;
-      empty = zero-head _ _ _ refl e5;
+      known = at 2;
+      may = neg-false _ (at 3);
+      unnamed = at 7;
+      empty = at 8;
     }
 
 pub record InsertOk (s : Site) (a b : ℕ) : Type 0 where
@@ -65,16 +60,14 @@ pub record InsertOk (s : Site) (a b : ℕ) : Type 0 where
   pub sound : spoils s (insert (s .roles) a b) ≡ false
 
 pub insert-ok : (s : Site) (a b : ℕ) → first (insertRules s a b) ≡ 0 → InsertOk s a b
-unfolding insertRules
+unfolding insertRules condition nonzero _and_ neg
 insert-ok s a b e =
-    let e2 = zero-rest _ _ _ refl e in
-    let e3 = zero-rest _ _ _ refl e2 in
-    let e4 = zero-rest _ _ _ refl e3 in
+    let at : (n : ℕ) → condition n (insertRules s a b) ≡ false = λ n. passed n (insertRules s a b) refl e in
     record {
-      known = zero-head _ _ _ refl e;
-      may = neg-false _ (zero-head _ _ _ refl e2);
-      apart = zero-head _ _ _ refl e3;
-      sound = zero-head _ _ _ refl e4;
+      known = at 2;
+      may = neg-false _ (at 3);
+      apart = at 5;
+      sound = at 9;
     }
 
 pub record CutOk (s : Site) (a b : ℕ) : Type 0 where
@@ -84,16 +77,14 @@ pub record CutOk (s : Site) (a b : ℕ) : Type 0 where
   pub sound : spoils s (cutEdge (s .roles) a b) ≡ false
 
 pub cut-ok : (s : Site) (a b : ℕ) → first (cutRules s a b) ≡ 0 → CutOk s a b
-unfolding cutRules
+unfolding cutRules condition nonzero _and_ neg
 cut-ok s a b e =
-    let e2 = zero-rest _ _ _ refl e in
-    let e3 = zero-rest _ _ _ refl e2 in
-    let e4 = zero-rest _ _ _ refl e3 in
+    let at : (n : ℕ) → condition n (cutRules s a b) ≡ false = λ n. passed n (cutRules s a b) refl e in
     record {
-      known = zero-head _ _ _ refl e;
-      may = neg-false _ (zero-head _ _ _ refl e2);
-      joined = neg-false _ (zero-head _ _ _ refl e3);
-      sound = zero-head _ _ _ refl e4;
+      known = at 2;
+      may = neg-false _ (at 3);
+      joined = neg-false _ (at 5);
+      sound = at 9;
     }
 
 -- ---- what the effects ask for: numbers below 64

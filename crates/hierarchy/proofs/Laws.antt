@@ -1,10 +1,10 @@
 -- The tests of kinds 5 to 8, as the code makes them.
 -- Assumes nothing.
-use mathlib.Core.Path.{_≡_, sym, ap, _∙_, subst}
+use mathlib.Core.Path.{_≡_, refl, sym, ap, _∙_, subst}
 use mathlib.Core.Bool.{Bool, true, false, not}
-use Prim.Native.Nat.{ℕ, _<_, _^_}
+use Prim.Native.Nat.{ℕ, _<_, _≤_, _^_}
 use lib.Arith.{lt-of-le-ne}
-use borrow.Author.Tests.{eq-eqb, ne-eqb}
+use borrow.Author.Tests.{eq-eqb, ne-eqb, eqb-false}
 use Rattle.sets.specs.Tests.{neg}
 use Rattle.sets.specs.Sets.{has, size, lowestFree}
 use Rattle.sets.proofs.Tests.{and-given, and-fails-l, and-fails-r, and-l, and-r, neg-i, neg-false, not-neg}
@@ -16,7 +16,7 @@ use Rattle.order.specs.Effects.{create}
 use Rattle.ranges.specs.declared.ModifyRow.{ModifyRow}
 use Rattle.ranges.specs.Rows.{within}
 use Rattle.hierarchy.specs.declared.Site.{Site}
-use Rattle.hierarchy.specs.Rules.{createIn, edgeIn, rowAllows, unknownRole, unknownPair, newRole, spoils}
+use Rattle.hierarchy.specs.Rules.{createIn, edgeIn, rowAllows, unknownRole, unknownPair, full, newRole, spoils, Fit}
 
 -- what a row has, by kind
 module _ (kind : ℕ) (f : Relation) (a b : ℕ) (row : ModifyRow) where
@@ -83,11 +83,19 @@ module _ (s : Site) (a : ℕ) where
       pub second-below : b < 64
       second-below = has-below 64 _ b w known-second
 
+-- what the tests of number 9 ask for, where the code finds that a and b are not unknown
+pub pair-fit : (s : Site) (a b : ℕ) → unknownPair s a b ≡ false → s .roles .used < 2 ^ 64 → s .modify .count ≤ 64 → Fit s a b
+pair-fit s a b k w l = record { rows = l; first = first-below s a b k w; second = second-below s a b k w }
+
 -- where not all 64 roles are in use, the new number is below 64: k is the count and n the number that the code finds
 pub new-below : (used k : ℕ) → k ≡ size 64 used → (k ≡ 64 → ⊥) → (n : ℕ) → n ≡ lowestFree 64 used → n < 64
 unfolding size
 new-below used k e m n q =
     subst (λ (x : ℕ). x < 64) (sym q) (lowest-room 64 used (lt-of-le-ne (count-le 64 (has used)) (λ z. m (e ∙ z))))
+
+pub not-full : (s : Site) → full s ≡ false → newRole s < 64
+unfolding full newRole
+not-full s e = new-below _ _ refl (eqb-false _ _ e) _ refl
 
 -- number 9 of kind 5: n is the number and o the order after that the code finds
 pub spoils-created : (s : Site) (a b n : ℕ) (o : Order) → n ≡ lowestFree 64 (s .roles .used) → o ≡ create (s .roles) n a b → (r : Bool) → r ≡ spoils s o

@@ -1,6 +1,6 @@
 -- Kinds 5 to 8. Document 01, "The eight requests" and "Outcome numbers".
 use mathlib.Core.Bool.{Bool}
-use Prim.Native.Nat.{ℕ}
+use Prim.Native.Nat.{ℕ, _≤_, _<_}
 use lib.Dec.{eqb, ltb}
 use lib.ListN.{getD}
 use Rattle.sets.specs.Tests.{_and_, _or_, neg, pick}
@@ -92,6 +92,12 @@ named t m a =
 -- number 8: "kind 6, a user or permission is explicitly in a"
 unfoldable pub someIn : Members → ℕ → Bool
 someIn m a = any (m .count) (λ u. has (getD (m .roles) u 0) a)
+
+-- what the tests of number 9 ask of their caller: at most 64 rows, and two roles below 64
+pub record Fit (s : Site) (a b : ℕ) : Type 0 where
+  pub rows : s .modify .count ≤ 64
+  pub first : a < 64
+  pub second : b < 64
 
 -- kind 5; number 5: "kind 5 with a not senior to b"
 unfoldable pub createRules : Site → ℕ → ℕ → Refusals

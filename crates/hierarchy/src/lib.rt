@@ -1,6 +1,7 @@
 // Kinds 5 to 8: roles are created and deleted, edges inserted and deleted.
 ghost use mathlib.Core.Path.{_≡_};
-ghost use Prim.Native.Nat.{_≤_};
+ghost use Prim.Native.Nat.{_≤_, _<_};
+ghost use Rattle.order.specs.Effects.{create as createOrder, insert as insertOrder, cutEdge};
 ghost use lib.Dec.{eqb};
 ghost use Rattle.sets.specs.Tests.{_or_};
 ghost use Rattle.sets.specs.Sets.{has};
@@ -8,7 +9,7 @@ ghost use Rattle.order.specs.Order.{senior};
 ghost use Rattle.ranges.specs.Rows.{within};
 ghost use Rattle.policy.specs.Good.{Sizes};
 ghost use Rattle.policy.specs.Outcome.{first};
-ghost use Rattle.hierarchy.specs.Rules.{site, createIn, rowAllows, mayModify, unknownRole, unknownPair, spoils, rowNames, tableNames, rangesName, named, someIn, createRules, deleteRules, insertRules, cutRules, createRole, deleteRole, insertEdge, deleteEdge};
+ghost use Rattle.hierarchy.specs.Rules.{site, createIn, rowAllows, mayModify, unknownRole, unknownPair, spoils, rowNames, tableNames, rangesName, named, someIn, Fit, full, newRole, createRules, deleteRules, insertRules, cutRules, createRole, deleteRole, insertEdge, deleteEdge};
 use order::Order;
 use order::create;
 use order::cut_edge;
@@ -154,6 +155,37 @@ fn is_spoilt(site: Site, after: Order) -> bool
     is_unsound(rows, modify.count, after)
 }
 
+// Number 6.
+fn is_full(site: Site) -> bool
+    ensures { λ r. ⌜ r ≡ full site ⌝ }
+{
+    let order = site.roles;
+    size(order.used) == 64
+}
+
+// Number 9, by kind.
+fn create_spoils(site: Site, a: usize, b: usize) -> bool
+    requires { ⌜ Fit site a b × (newRole site < 64) ⌝ }
+    ensures { λ r. ⌜ r ≡ spoils site (createOrder (site .roles) (newRole site) a b) ⌝ }
+{
+    let order = site.roles;
+    is_spoilt(site, create(order, lowest_free(order.used), a, b))
+}
+
+fn insert_spoils(site: Site, a: usize, b: usize) -> bool
+    requires { ⌜ Fit site a b ⌝ }
+    ensures { λ r. ⌜ r ≡ spoils site (insertOrder (site .roles) a b) ⌝ }
+{
+    is_spoilt(site, insert(site.roles, a, b))
+}
+
+fn cut_spoils(site: Site, a: usize, b: usize) -> bool
+    requires { ⌜ Fit site a b ⌝ }
+    ensures { λ r. ⌜ r ≡ spoils site (cutEdge (site .roles) a b) ⌝ }
+{
+    is_spoilt(site, cut_edge(site.roles, a, b))
+}
+
 // Kind 5: the first refusal that holds, or 0.
 pub fn create_outcome(site: Site, a: u64, b: u64) -> u64
     requires { ⌜ site .modify .count ≤ 64 ⌝ }
@@ -167,15 +199,13 @@ pub fn create_outcome(site: Site, a: u64, b: u64) -> u64
     if !may_modify(site, 5, parent, child) {
         return 3;
     }
-    let order = site.roles;
-    if !is_senior_in(order, parent, child) {
+    if !is_senior_in(site.roles, parent, child) {
         return 5;
     }
-    if size(order.used) == 64 {
+    if is_full(site) {
         return 6;
     }
-    let after = create(order, lowest_free(order.used), parent, child);
-    if is_spoilt(site, after) {
+    if create_spoils(site, parent, child) {
         return 9;
     }
     0
@@ -217,11 +247,10 @@ pub fn insert_outcome(site: Site, a: u64, b: u64) -> u64
     if !may_modify(site, 7, upper, lower) {
         return 3;
     }
-    let order = site.roles;
-    if is_comparable(order, upper, lower) {
+    if is_comparable(site.roles, upper, lower) {
         return 5;
     }
-    if is_spoilt(site, insert(order, upper, lower)) {
+    if insert_spoils(site, upper, lower) {
         return 9;
     }
     0
@@ -240,11 +269,10 @@ pub fn cut_outcome(site: Site, a: u64, b: u64) -> u64
     if !may_modify(site, 8, upper, lower) {
         return 3;
     }
-    let order = site.roles;
-    if !is_edge_in(order, upper, lower) {
+    if !is_edge_in(site.roles, upper, lower) {
         return 5;
     }
-    if is_spoilt(site, cut_edge(order, upper, lower)) {
+    if cut_spoils(site, upper, lower) {
         return 9;
     }
     0

@@ -14,14 +14,8 @@ use Rattle.sets.specs.Sets.{count}
 use Rattle.sets.proofs.Digits.{lt-or-le}
 use Rattle.sets.proofs.Quantifiers.{count-same, count-add}
 use Rattle.number.specs.Run.{each}
-use Rattle.listing.specs.Listing.{kindAt, aAt, bAt, places, entry, entriesOf}
+use Rattle.listing.specs.Listing.{kindAt, aAt, bAt, placeCount, entry, entriesOf, EntryIs, InKinds, Earlier, by-kind, by-first, by-second}
 use Rattle.listing.proofs.Laws.{each-length}
-
--- the bytes at n of a listing
-pub record EntryIs (bytes : List ℕ) (n k a b : ℕ) : Type 0 where
-  pub kind : getD bytes (3 * n) 0 ≡ k
-  pub first : getD bytes (3 * n + 1) 0 ≡ a
-  pub second : getD bytes (3 * n + 2) 0 ≡ b
 
 each-split : (g : ℕ → List ℕ) (m n i : ℕ) → each g (m + n) i ≡ each g m i ++ each g n (i + m)
 unfolding each
@@ -32,7 +26,7 @@ each-split g (suc m) n i =
     rw s (ap (λ (l : List ℕ). g i ++ l) (each-split g m n (i + 1)) ∙ sym (append-assoc (g i) (each g m (i + 1)) (each g n (i + 1 + m))) ∙ ap (λ (x : ℕ). (g i ++ each g m (i + 1)) ++ each g n x) e)
 
 -- ---- a place that passes has its entry behind those of the places before it that pass
-module _ (f : ℕ → Bool) (i : ℕ) (l : i < places) (t : f i ≡ true) where
+module _ (f : ℕ → Bool) (i : ℕ) (l : i < placeCount) (t : f i ≡ true) where
   wanted : ℕ → List ℕ
   wanted k = pick (f k) (entry k) []
 
@@ -40,14 +34,14 @@ module _ (f : ℕ → Bool) (i : ℕ) (l : i < places) (t : f i ≡ true) where
   before = each wanted i 0
 
   after : List ℕ
-  after = each wanted (places - (i + 1)) (i + 1)
+  after = each wanted (placeCount - (i + 1)) (i + 1)
 
   around : entriesOf f ≡ before ++ (entry i ++ after)
   unfolding entriesOf wanted before after each
   around =
-      let s : places ≡ i + suc (places - (i + 1)) = omega arith in
-      ap (λ (x : ℕ). each wanted x 0) s ∙ each-split wanted i (suc (places - (i + 1))) 0
-      ∙ ap (λ (x : ℕ). before ++ each wanted (suc (places - (i + 1))) x) (zero-add i)
+      let s : placeCount ≡ i + suc (placeCount - (i + 1)) = omega arith in
+      ap (λ (x : ℕ). each wanted x 0) s ∙ each-split wanted i (suc (placeCount - (i + 1))) 0
+      ∙ ap (λ (x : ℕ). before ++ each wanted (suc (placeCount - (i + 1))) x) (zero-add i)
       ∙ ap (λ (e : List ℕ). before ++ (e ++ after)) here
     where
       here : wanted i ≡ entry i
@@ -107,15 +101,8 @@ later f x y l =
 abbrev pub placeFor : ℕ → ℕ → ℕ → ℕ
 placeFor k a b = (k - 5) * 4096 + a * 64 + b
 
--- a request of kinds 5 to 8 with roles below 64
-pub record InKinds (k a b : ℕ) : Type 0 where
-  pub least : 5 ≤ k
-  pub most : k ≤ 8
-  pub first : a < 64
-  pub second : b < 64
-
 module _ {k a b : ℕ} (h : InKinds k a b) where
-  pub place-within : placeFor k a b < places
+  pub place-within : placeFor k a b < placeCount
   place-within = omega (arith, h .least, h .most, h .first, h .second)
 
   pub place-kind : kindAt (placeFor k a b) ≡ k
@@ -127,16 +114,11 @@ module _ {k a b : ℕ} (h : InKinds k a b) where
   pub place-second : bAt (placeFor k a b) ≡ b
   place-second = omega (arith, h .least, h .most, h .first, h .second)
 
-pub place-in-kinds : (i : ℕ) → i < places → InKinds (kindAt i) (aAt i) (bAt i)
+pub place-in-kinds : (i : ℕ) → i < placeCount → InKinds (kindAt i) (aAt i) (bAt i)
 place-in-kinds i l = record { least = omega arith; most = omega arith; first = omega arith; second = omega arith }
 
--- "ordered by kind, then a, then b"
-pub data Before (k a b k′ a′ b′ : ℕ) : Type 0 where
-  by-kind : k < k′ → Before k a b k′ a′ b′
-  by-first : k ≡ k′ → a < a′ → Before k a b k′ a′ b′
-  by-second : k ≡ k′ → a ≡ a′ → b < b′ → Before k a b k′ a′ b′
-
-pub place-before : (i j : ℕ) → i < j → Before (kindAt i) (aAt i) (bAt i) (kindAt j) (aAt j) (bAt j)
+-- an earlier place has the earlier request
+pub place-before : (i j : ℕ) → i < j → Earlier (kindAt i) (aAt i) (bAt i) (kindAt j) (aAt j) (bAt j)
 place-before i j l =
     ⊎-elim (λ h. by-kind (omega arith))
     (λ h. ⊎-elim (λ g. by-first (omega arith) g) (λ g. by-second (omega arith) (omega arith) (omega arith)) (lt-or-le (aAt i) (aAt j)))

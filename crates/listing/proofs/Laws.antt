@@ -25,7 +25,7 @@ use Rattle.requests.proofs.Decided.{every-request}
 use lib.Seq.{sets}
 use Rattle.number.specs.Run.{each}
 use Rattle.number.proofs.Puts.{Putting, put-room, put-step}
-use Rattle.listing.specs.Listing.{accepts, places, listedAt, entryCount, entry, entriesOf, listingBytes, acceptedSet, Gathered, inRows, listed, filled, ListingOf}
+use Rattle.listing.specs.Listing.{accepts, placeCount, listedAt, entryCount, entry, entriesOf, entriesFor, acceptedSet, AcceptedRows, inRows, listed, filled, ListingOf}
 use Rattle.listing.specs.declared.Listed.the-variants.{Unknown, Short, Entries}
 use Rattle.listing.specs.Sites.{siteOutcome}
 
@@ -119,7 +119,7 @@ total-turn rows j n s e d =
     rw (k, e, d) (sym (count-add (j * 64) 64 (inRows rows) ∙ ap (λ (x : ℕ). count (j * 64) (inRows rows) + x) (count-same 64 _ _ (λ b l. in-row rows j b l))))
 
 -- ---- what is gathered is what is listed
-pub rows-listed : (p : Policy) (o : ℕ) (rows : List ℕ) → Gathered p o rows → (i : ℕ) → i < places → inRows rows i ≡ listedAt p o i
+pub rows-listed : (p : Policy) (o : ℕ) (rows : List ℕ) → AcceptedRows p o rows → (i : ℕ) → i < placeCount → inRows rows i ≡ listedAt p o i
 unfolding inRows listedAt acceptedSet
 rows-listed p o rows g i l =
     let h : i / 64 < 256 = omega arith in
@@ -132,9 +132,9 @@ unfolding each
 each-same f g N e zero i l = refl
 each-same f g N e (suc n) i l = ap₂ _++_ (e i (omega arith)) (each-same f g N e n (i + 1) (omega arith))
 
-pub entries-same : (f g : ℕ → Bool) → ((i : ℕ) → i < places → f i ≡ g i) → entriesOf f ≡ entriesOf g
+pub entries-same : (f g : ℕ → Bool) → ((i : ℕ) → i < placeCount → f i ≡ g i) → entriesOf f ≡ entriesOf g
 unfolding entriesOf
-entries-same f g e = each-same _ _ places (λ i l. ap (λ (b : Bool). pick b (entry i) []) (e i l)) places 0 (omega arith)
+entries-same f g e = each-same _ _ placeCount (λ i l. ap (λ (b : Bool). pick b (entry i) []) (e i l)) placeCount 0 (omega arith)
 
 entry-length : (b : Bool) (i : ℕ) → length (pick b (entry i) []) ≡ 3 * pick b 1 0
 entry-length true i = refl
@@ -161,33 +161,33 @@ each-length f (suc n) i =
     sum : (x y a b c : ℕ) → x ≡ 3 * a → y ≡ 3 * b → c ≡ a + b → x + y ≡ 3 * c
     sum x y a b c p q r = omega arith
 
-pub entries-length : (f : ℕ → Bool) → length (entriesOf f) ≡ 3 * count places f
+pub entries-length : (f : ℕ → Bool) → length (entriesOf f) ≡ 3 * count placeCount f
 unfolding entriesOf
-entries-length f = each-length f places 0 ∙ ap (λ (x : ℕ). 3 * x) (count-same places _ _ (λ k l. ap f (zero-add k)))
+entries-length f = each-length f placeCount 0 ∙ ap (λ (x : ℕ). 3 * x) (count-same placeCount _ _ (λ k l. ap f (zero-add k)))
 
 pub total-none : (rows : List ℕ) → 0 ≡ count (0 * 64) (inRows rows)
 unfolding count
 total-none rows = refl
 
-pub total-end : (rows : List ℕ) (j n : ℕ) → j ≤ 256 → 256 ≤ j → n ≡ count (j * 64) (inRows rows) → n ≡ count places (inRows rows)
-total-end rows j n l m e = let d : j * 64 ≡ places = omega arith in e ∙ ap (λ (x : ℕ). count x (inRows rows)) d
+pub total-end : (rows : List ℕ) (j n : ℕ) → j ≤ 256 → 256 ≤ j → n ≡ count (j * 64) (inRows rows) → n ≡ count placeCount (inRows rows)
+total-end rows j n l m e = let d : j * 64 ≡ placeCount = omega arith in e ∙ ap (λ (x : ℕ). count x (inRows rows)) d
 
 -- ---- the writing loop: f i is what stands for place i
 abbrev pub wanted : List ℕ → ℕ → List ℕ
 wanted rows i = pick (inRows rows i) (entry i) []
 
-module _ (rows o₀ o : List ℕ) (i at : ℕ) (k : Putting (wanted rows) places o₀ 0 i o at) (l : i < places) where
+module _ (rows o₀ o : List ℕ) (i at : ℕ) (k : Putting (wanted rows) placeCount o₀ 0 i o at) (l : i < placeCount) where
   here : inRows rows i ≡ true → wanted rows i ≡ entry i
   here t = rw t
 
-  pub put-fits : length (entriesOf (inRows rows)) ≤ length o₀ → inRows rows i ≡ true → (at + 3 ≤ length o) × (i < places)
+  pub put-fits : length (entriesOf (inRows rows)) ≤ length o₀ → inRows rows i ≡ true → (at + 3 ≤ length o) × (i < placeCount)
   unfolding entriesOf
   put-fits r t = (omega (arith, put-room k l (rw zero-add r), ap length (here t)), l)
 
-  pub put-one : inRows rows i ≡ true → {o′ : List ℕ} → o′ ≡ sets o at (entry i) → Putting (wanted rows) places o₀ 0 (i + 1) o′ (at + 3)
+  pub put-one : inRows rows i ≡ true → {o′ : List ℕ} → o′ ≡ sets o at (entry i) → Putting (wanted rows) placeCount o₀ 0 (i + 1) o′ (at + 3)
   put-one t e = put-step k l (here t) e refl
 
-  pub put-skip : inRows rows i ≡ false → Putting (wanted rows) places o₀ 0 (i + 1) o at
+  pub put-skip : inRows rows i ≡ false → Putting (wanted rows) placeCount o₀ 0 (i + 1) o at
   put-skip t = put-step k l skip refl (sym (add-zero at))
     where
       skip : wanted rows i ≡ []
@@ -199,13 +199,13 @@ module _ (p : Policy) (o : ℕ) (out : List ℕ) where
   unfolding listed filled
   list-unknown l = record { is = rw (le-leb _ _ l); bytes = rw (le-leb _ _ l) }
 
-  module _ (l : o < p .people .users .count) {rows : List ℕ} (g : Gathered p o rows) {n : ℕ} (e : n ≡ count places (inRows rows)) where
+  module _ (l : o < p .people .users .count) {rows : List ℕ} (g : AcceptedRows p o rows) {n : ℕ} (e : n ≡ count placeCount (inRows rows)) where
     counted : n ≡ entryCount p o
     unfolding entryCount
-    counted = e ∙ count-same places _ _ (λ i h. rows-listed p o rows g i h)
+    counted = e ∙ count-same placeCount _ _ (λ i h. rows-listed p o rows g i h)
 
-    bytes-are : entriesOf (inRows rows) ≡ listingBytes p o
-    unfolding listingBytes
+    bytes-are : entriesOf (inRows rows) ≡ entriesFor p o
+    unfolding entriesFor
     bytes-are = entries-same _ _ (λ i h. rows-listed p o rows g i h)
 
     pub list-short : length out < 3 * n → ListingOf p o out Short out

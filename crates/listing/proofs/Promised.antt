@@ -8,7 +8,7 @@ use native.Mathlib.Omega.{arith}
 use lib.Dec.{eqb}
 use lib.ListN.{length}
 use borrow.Author.Tests.{eqb-true, eqb-false}
-use Rattle.sets.specs.Tests.{pick}
+use Rattle.sets.specs.Tests.{_and_, neg, pick}
 use Rattle.sets.specs.Sets.{has, count}
 use Rattle.sets.proofs.Tests.{by-test, clash, not-so, and-l, and-r, neg-false}
 use Rattle.sets.proofs.Quantifiers.{count-add, count-le, any-fails}
@@ -17,37 +17,31 @@ use Rattle.ranges.specs.Rows.{rowAt, within}
 use Rattle.policy.specs.declared.Policy.{Policy}
 use Rattle.policy.specs.Good.{Good}
 use Rattle.policy.specs.Outcome.{first}
-use Rattle.policy.proofs.Outcomes.{zero-head}
+use Rattle.policy.proofs.Outcomes.{condition, nonzero, passed}
 use Rattle.hierarchy.specs.declared.Site.{Site}
 use Rattle.hierarchy.specs.Rules.{site, over, deleteRules}
 use Rattle.hierarchy.proofs.Accepted.{create-fits, delete-fits, insert-fits, cut-fits}
-use Rattle.safety.specs.Dominance.{mayChange}
-use Rattle.safety.proofs.Hierarchy.{Kept}
+use Rattle.safety.specs.Dominance.{mayChange, Kept, Outside}
 use Rattle.requests.specs.Requests.{decide, rulesOf}
 use Rattle.requests.specs.Reached.{Reached}
 use Rattle.requests.proofs.Decided.{every-request, reached-good}
 use Rattle.requests.proofs.Safe.{create-safe, delete-safe, insert-safe, cut-safe}
-use Rattle.listing.specs.Listing.{accepts, kindAt, aAt, bAt, places, listedAt, entryCount, entriesOf, listingBytes}
+use Rattle.listing.specs.Listing.{accepts, kindAt, aAt, bAt, placeCount, listedAt, entryCount, entriesOf, entriesFor, EntryIs, InListing, InKinds, Earlier}
 use Rattle.listing.proofs.Laws.{entries-length, accepts-delete}
-use Rattle.listing.proofs.Entries.{count-below, EntryIs, entry-stands, PlaceOf, place-of, later, placeFor, InKinds, place-within, place-kind, place-first, place-second, place-in-kinds, Before, place-before}
-
--- an entry stands in the listing, at n
-pub record Listed (p : Policy) (o n k a b : ℕ) : Type 0 where
-  pub below : n < entryCount p o
-  pub stands : EntryIs (listingBytes p o) n k a b
+use Rattle.listing.proofs.Entries.{count-below, entry-stands, PlaceOf, place-of, later, placeFor, place-within, place-kind, place-first, place-second, place-in-kinds, place-before}
 
 module _ (p : Policy) (o : ℕ) where
   -- each place of the listing holds a request that would be accepted
-  pub holds : (n : ℕ) → n < entryCount p o → PlaceOf (listedAt p o) places n
+  pub holds : (n : ℕ) → n < entryCount p o → PlaceOf (listedAt p o) placeCount n
   unfolding entryCount
-  holds n l = place-of (listedAt p o) places n l
+  holds n l = place-of (listedAt p o) placeCount n l
 
-  stands-at : {n : ℕ} (x : PlaceOf (listedAt p o) places n) → EntryIs (listingBytes p o) n (kindAt (x .place)) (aAt (x .place)) (bAt (x .place))
-  unfolding listingBytes
+  stands-at : {n : ℕ} (x : PlaceOf (listedAt p o) placeCount n) → EntryIs (entriesFor p o) n (kindAt (x .place)) (aAt (x .place)) (bAt (x .place))
+  unfolding entriesFor
   stands-at x = subst (λ (m : ℕ). EntryIs (entriesOf (listedAt p o)) m (kindAt (x .place)) (aAt (x .place)) (bAt (x .place))) (x .before) (entry-stands (listedAt p o) (x .place) (x .within) (x .passes))
 
   -- "every request of kinds 5 to 8 that would be accepted": an entry is in the listing only if the request would be accepted
-  pub listed-accepted : {n k a b : ℕ} → Listed p o n k a b → (accepts p o k a b ≡ true) × InKinds k a b
+  pub listed-accepted : {n k a b : ℕ} → InListing p o n k a b → (accepts p o k a b ≡ true) × InKinds k a b
   unfolding listedAt
   listed-accepted {n} h =
       let x = holds n (h .below) in
@@ -58,16 +52,16 @@ module _ (p : Policy) (o : ℕ) where
       (rw (← ek, ← ea, ← eb) (x .passes), rw (← ek, ← ea, ← eb) (place-in-kinds (x .place) (x .within)))
 
   -- and if it would be accepted, its entry stands there
-  pub accepted-listed : {k a b : ℕ} → InKinds k a b → accepts p o k a b ≡ true → Listed p o (count (placeFor k a b) (listedAt p o)) k a b
-  unfolding listedAt listingBytes entryCount
+  pub accepted-listed : {k a b : ℕ} → InKinds k a b → accepts p o k a b ≡ true → InListing p o (count (placeFor k a b) (listedAt p o)) k a b
+  unfolding listedAt entriesFor entryCount
   accepted-listed {k} {a} {b} h t =
       let i = placeFor k a b in
       let u : listedAt p o i ≡ true = rw (place-kind h, place-first h, place-second h) t in
       let e = entry-stands (listedAt p o) i (place-within h) u in
-      record { below = count-below (listedAt p o) i places (place-within h) u; stands = rw (place-kind h, place-first h, place-second h) at e }
+      record { below = count-below (listedAt p o) i placeCount (place-within h) u; stands = rw (place-kind h, place-first h, place-second h) at e }
 
   -- "ordered by kind, then a, then b": an earlier entry comes before a later one, so that each stands once
-  pub ascending : {n m k a b k′ a′ b′ : ℕ} → Listed p o n k a b → Listed p o m k′ a′ b′ → n < m → Before k a b k′ a′ b′
+  pub ascending : {n m k a b k′ a′ b′ : ℕ} → InListing p o n k a b → InListing p o m k′ a′ b′ → n < m → Earlier k a b k′ a′ b′
   ascending {n} {m} h g l =
       let x = holds n (h .below) in
       let y = holds m (g .below) in
@@ -84,14 +78,14 @@ module _ (p : Policy) (o : ℕ) where
       (place-before (x .place) (y .place) (later (listedAt p o) x y l))
 
   -- the bytes are three for each entry
-  pub bytes-long : length (listingBytes p o) ≡ 3 * entryCount p o
-  unfolding listingBytes entryCount
+  pub bytes-long : length (entriesFor p o) ≡ 3 * entryCount p o
+  unfolding entriesFor entryCount
   bytes-long = entries-length (listedAt p o)
 
   -- kind 6 has b 0 alone
   delete-zero : (a b : ℕ) → accepts p o 6 a b ≡ true → eqb b 0 ≡ true
-  unfolding deleteRules
-  delete-zero a b t = neg-false _ (zero-head _ _ _ refl (eqb-true _ 0 (sym (accepts-delete p o a b) ∙ t)))
+  unfolding deleteRules condition nonzero _and_ neg
+  delete-zero a b t = neg-false _ (passed 1 _ refl (eqb-true _ 0 (sym (accepts-delete p o a b) ∙ t)))
 
 -- ---- "37,056 bytes are always enough"
 count-mono : (f g : ℕ → Bool) (w : ℕ) → ((i : ℕ) → i < w → f i ≡ true → g i ≡ true) → count w f ≤ count w g
@@ -114,7 +108,7 @@ unfolding entryCount listedAt
 enough p o =
     omega (arith, split, count-le 4096 (listedAt p o), sixth, count-le 8192 (λ i. listedAt p o (4096 + (4096 + i))))
   where
-    split : count places (listedAt p o) ≡ count 4096 (listedAt p o) + (count 4096 (λ i. listedAt p o (4096 + i)) + count 8192 (λ i. listedAt p o (4096 + (4096 + i))))
+    split : count placeCount (listedAt p o) ≡ count 4096 (listedAt p o) + (count 4096 (λ i. listedAt p o (4096 + i)) + count 8192 (λ i. listedAt p o (4096 + (4096 + i))))
     split = count-add 4096 12288 (listedAt p o) ∙ ap (λ (x : ℕ). count 4096 (listedAt p o) + x) (count-add 4096 8192 (λ i. listedAt p o (4096 + i)))
 
     kind-six : (i : ℕ) → i < 4096 → 5 + (4096 + i) / 4096 ≡ 6
@@ -164,14 +158,14 @@ module _ (p : Policy) (o : ℕ) (g : Good p) where
       small b e = omega (arith, eqb-true b 0 e)
 
   -- so, of kinds 5 to 8, exactly what would be accepted is listed, whatever the numbers
-  pub exactly : (k a b : ℕ) → 5 ≤ k → k ≤ 8 → accepts p o k a b ≡ true → Listed p o (count (placeFor k a b) (listedAt p o)) k a b
+  pub exactly : (k a b : ℕ) → 5 ≤ k → k ≤ 8 → accepts p o k a b ≡ true → InListing p o (count (placeFor k a b) (listedAt p o)) k a b
   exactly k a b l m t =
       let f = accepted-fits k a b l m t in
       accepted-listed p o (record { least = l; most = m; first = f .0; second = f .1 }) t
 
   -- "Carrying out any of them leaves no cycle, every authority range encapsulated, no two overlapping in part; two roles keep their dominance
   -- unless both lie strictly inside one range this officer may modify."
-  pub listed-safe : {n k a b : ℕ} → Listed p o n k a b → Kept (site p o) (decide p (record { officer = o; kind = k; a = a; b = b }) .policy .orders .roles)
+  pub listed-safe : {n k a b : ℕ} → InListing p o n k a b → Kept (site p o) (decide p (record { officer = o; kind = k; a = a; b = b }) .policy .orders .roles)
   listed-safe {n} {k} {a} {b} h =
       let u = listed-accepted p o h in
       four-kinds (λ c. accepts p o c a b ≡ true → Kept (site p o) (decide p (record { officer = o; kind = c; a = a; b = b }) .policy .orders .roles))
@@ -179,29 +173,25 @@ module _ (p : Policy) (o : ℕ) (g : Good p) where
       (λ t. insert-safe p o a b g (outcome-zero p o 7 a b t)) (λ t. cut-safe p o a b g (outcome-zero p o 8 a b t)) k (u .1 .least) (u .1 .most) (u .0)
 
   -- the policy after is good again, so that both orders are strict and all this holds of it too
-  pub listed-good : {n k a b : ℕ} → Listed p o n k a b → Good (decide p (record { officer = o; kind = k; a = a; b = b }) .policy)
+  pub listed-good : {n k a b : ℕ} → InListing p o n k a b → Good (decide p (record { officer = o; kind = k; a = a; b = b }) .policy)
   listed-good {n} {k} {a} {b} h = every-request p (record { officer = o; kind = k; a = a; b = b }) .good g
 
 -- in every policy reached from a loaded one: it is good, so all of the above holds of it
-pub reached-listed : {start p : Policy} (o : ℕ) → Good start → Reached start p → {n k a b : ℕ} → Listed p o n k a b
+pub reached-listed : {start p : Policy} (o : ℕ) → Good start → Reached start p → {n k a b : ℕ} → InListing p o n k a b
     → Kept (site p o) (decide p (record { officer = o; kind = k; a = a; b = b }) .policy .orders .roles)
 reached-listed o g r h = listed-safe _ o (reached-good g r) h
 
 -- ---- the assessor's second question
--- x lies outside every range that the officer may modify
-pub Outside : Site → ℕ → Type 0
-Outside s x = (i : ℕ) → i < s .modify .count → has (s .usable) (rowAt (s .modify .rows) i .admin .0) ≡ true → within (over s) (rowAt (s .modify .rows) i) x ≡ false
-
 outside-first : (s : Site) (x y : ℕ) → Outside s x → mayChange s x y ≡ false
-unfolding Outside mayChange
+unfolding mayChange
 outside-first s x y h = any-fails _ _ (λ i l. not-so _ (λ t. clash (and-l _ _ (and-r _ _ t)) (h i l (and-l _ _ t))))
 
 outside-second : (s : Site) (x y : ℕ) → Outside s y → mayChange s x y ≡ false
-unfolding Outside mayChange
+unfolding mayChange
 outside-second s x y h = any-fails _ _ (λ i l. not-so _ (λ t. clash (and-r _ _ (and-r _ _ t)) (h i l (and-l _ _ t))))
 
 -- where one of two roles lies outside every range that this officer may modify, no listed request changes their dominance
-module _ (p : Policy) (o : ℕ) (g : Good p) {n k a b : ℕ} (h : Listed p o n k a b) (x y : ℕ) (ux : has (p .orders .roles .used) x ≡ true) (uy : has (p .orders .roles .used) y ≡ true) where
+module _ (p : Policy) (o : ℕ) (g : Good p) {n k a b : ℕ} (h : InListing p o n k a b) (x y : ℕ) (ux : has (p .orders .roles .used) x ≡ true) (uy : has (p .orders .roles .used) y ≡ true) where
   abbrev after : Policy
   after = decide p (record { officer = o; kind = k; a = a; b = b }) .policy
 

@@ -3,7 +3,7 @@
 use mathlib.Core.Path.{_≡_}
 use mathlib.Core.Bool.{Bool}
 use mathlib.Core.List.{List, [], _∷_}
-use Prim.Native.Nat.{ℕ, _+_, _*_, _/_, _%_, _<_}
+use Prim.Native.Nat.{ℕ, _+_, _*_, _/_, _%_, _<_, _≤_}
 use lib.Dec.{eqb, leb, ltb}
 use lib.ListN.{length, getD}
 use lib.Seq.{sets}
@@ -30,8 +30,8 @@ aAt i = i / 64 % 64
 abbrev pub bAt : ℕ → ℕ
 bAt i = i % 64
 
-abbrev pub places : ℕ
-places = 16384
+abbrev pub placeCount : ℕ
+placeCount = 16384
 
 -- the one at place i would be accepted
 unfoldable pub listedAt : Policy → ℕ → ℕ → Bool
@@ -39,7 +39,7 @@ listedAt p o i = accepts p o (kindAt i) (aAt i) (bAt i)
 
 -- how many would be
 unfoldable pub entryCount : Policy → ℕ → ℕ
-entryCount p o = count places (listedAt p o)
+entryCount p o = count placeCount (listedAt p o)
 
 -- "three bytes each (kind, a, b)"
 abbrev pub entry : ℕ → List ℕ
@@ -47,10 +47,10 @@ entry i = kindAt i ∷ aAt i ∷ bAt i ∷ []
 
 -- the bytes of those places at which a test passes
 unfoldable pub entriesOf : (ℕ → Bool) → List ℕ
-entriesOf f = each (λ i. pick (f i) (entry i) []) places 0
+entriesOf f = each (λ i. pick (f i) (entry i) []) placeCount 0
 
-unfoldable pub listingBytes : Policy → ℕ → List ℕ
-listingBytes p o = entriesOf (listedAt p o)
+unfoldable pub entriesFor : Policy → ℕ → List ℕ
+entriesFor p o = entriesOf (listedAt p o)
 
 -- "Refused with 2 for an unknown officer, else with 10 exactly if 3 times the count exceeds the buffer"
 unfoldable pub listed : Policy → ℕ → ℕ → Listed
@@ -60,12 +60,36 @@ listed p o room =
 -- "the count is 0 and nothing is written then"
 unfoldable pub filled : Policy → ℕ → List ℕ → List ℕ
 filled p o out =
-    pick (leb (p .people .users .count) o) out (pick (ltb (length out) (3 * entryCount p o)) out (sets out 0 (listingBytes p o)))
+    pick (leb (p .people .users .count) o) out (pick (ltb (length out) (3 * entryCount p o)) out (sets out 0 (entriesFor p o)))
 
 -- what a listing leaves: the answer, and every byte of the buffer
 pub record ListingOf (p : Policy) (o : ℕ) (before : List ℕ) (answer : Listed) (after : List ℕ) : Type 0 where
   pub is : answer ≡ listed p o (length before)
   pub bytes : after ≡ filled p o before
+
+-- ---- what a reader of the buffer finds: the entry at n is (k, a, b)
+pub record EntryIs (bytes : List ℕ) (n k a b : ℕ) : Type 0 where
+  pub kind : getD bytes (3 * n) 0 ≡ k
+  pub first : getD bytes (3 * n + 1) 0 ≡ a
+  pub second : getD bytes (3 * n + 2) 0 ≡ b
+
+-- an entry stands in the listing, at n
+pub record InListing (p : Policy) (o n k a b : ℕ) : Type 0 where
+  pub below : n < entryCount p o
+  pub stands : EntryIs (entriesFor p o) n k a b
+
+-- "every request of kinds 5 to 8", of roles below 64
+pub record InKinds (k a b : ℕ) : Type 0 where
+  pub least : 5 ≤ k
+  pub most : k ≤ 8
+  pub first : a < 64
+  pub second : b < 64
+
+-- "ordered by kind, then a, then b": the first request comes before the second
+pub data Earlier (k a b k′ a′ b′ : ℕ) : Type 0 where
+  by-kind : k < k′ → Earlier k a b k′ a′ b′
+  by-first : k ≡ k′ → a < a′ → Earlier k a b k′ a′ b′
+  by-second : k ≡ k′ → a ≡ a′ → b < b′ → Earlier k a b k′ a′ b′
 
 -- the number and the count of each answer
 unfoldable pub listedOutcome : Listed → ℕ
@@ -82,7 +106,7 @@ listedCount (Entries n) = n
 unfoldable pub acceptedSet : Policy → ℕ → ℕ → ℕ
 acceptedSet p o j = setOf 64 (accepts p o (5 + j / 64) (j % 64))
 
-pub record Gathered (p : Policy) (o : ℕ) (rows : List ℕ) : Type 0 where
+pub record AcceptedRows (p : Policy) (o : ℕ) (rows : List ℕ) : Type 0 where
   pub row : (j : ℕ) → j < 256 → getD rows j 0 ≡ acceptedSet p o j
 
 -- place i is in the sets that were gathered

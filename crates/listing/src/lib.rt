@@ -8,7 +8,7 @@ ghost use Rattle.sets.specs.Sets.{count, setOf};
 ghost use Rattle.policy.specs.Good.{Sizes};
 ghost use Rattle.policy.specs.Outcome.{first};
 ghost use Rattle.hierarchy.specs.Rules.{deleteRules};
-ghost use Rattle.listing.specs.Listing.{acceptedSet, Gathered, inRows, places, entry, entriesOf, ListingOf};
+ghost use Rattle.listing.specs.Listing.{acceptedSet, AcceptedRows, inRows, placeCount, entry, entriesOf, ListingOf};
 ghost use Rattle.listing.specs.Sites.{siteOutcome};
 use hierarchy::Site;
 use hierarchy::create_outcome;
@@ -93,7 +93,7 @@ fn row_at(p: Policy, o: u64, j: usize) -> u64
 // All that would be accepted, gathered before a byte is written.
 fn gathered(p: Policy, o: u64) -> [u64; 256]
     requires { ⌜ Sizes p ⌝ }
-    ensures { λ r. ⌜ Gathered p o r ⌝ }
+    ensures { λ r. ⌜ AcceptedRows p o r ⌝ }
 {
     let mut rows = [0u64; 256];
     let mut j = 0;
@@ -106,7 +106,7 @@ fn gathered(p: Policy, o: u64) -> [u64; 256]
 
 // How many entries there are.
 fn total(rows: [u64; 256]) -> usize
-    ensures { λ r. ⌜ r ≡ count places (inRows rows) ⌝ }
+    ensures { λ r. ⌜ r ≡ count placeCount (inRows rows) ⌝ }
 {
     let mut n: usize = 0;
     let mut j = 0;
@@ -119,7 +119,7 @@ fn total(rows: [u64; 256]) -> usize
 
 // Writes the three bytes of the entry at place i.
 fn put_entry(out: &mut [u8], at: usize, i: usize)
-    requires { ⌜ (at + 3 ≤ length (now out)) × (i < places) ⌝ }
+    requires { ⌜ (at + 3 ≤ length (now out)) × (i < placeCount) ⌝ }
     ensures { λ _. ⌜ now (out .exit) ≡ sets (now (out .entry)) at (entry i) ⌝ }
 {
     out[at] = (5 + i / 4096) as u8;

@@ -10,16 +10,17 @@ use lib.Dec.{eqb}
 use lib.ListN.{getD, set, length, length-set}
 use lib.Seq.{getD-set-same, getD-set-other}
 use borrow.Author.Tests.{eqb-true, eqb-false}
+use Rattle.sets.specs.Tests.{_and_, neg}
 use Rattle.sets.specs.Sets.{has, subset}
 use Rattle.sets.proofs.Tests.{by-test, and-l, and-r, or-cases, neg-false}
 use Rattle.sets.proofs.Builders.{setOf-lt, in-setOf, subset-at, subset-of}
 use Rattle.policy.specs.declared.Policy.{Policy}
 use Rattle.policy.specs.Build.{putRoles, withUsers, withPermissions}
 use Rattle.policy.specs.Good.{Good, GoodSets}
-use Rattle.policy.specs.Outcome.{Refusals, refuse, first}
+use Rattle.policy.specs.Outcome.{Refusals, first}
 use Rattle.members.specs.declared.View.{View}
-use Rattle.members.specs.Rules.{unknown, withRole, withoutRole}
-use Rattle.policy.proofs.Outcomes.{zero-head}
+use Rattle.members.specs.Rules.{unknown, assignRules, revokeRules, withRole, withoutRole}
+use Rattle.policy.proofs.Outcomes.{condition, nonzero, passed}
 
 -- ---- a set put in the place of member a
 at-set : (P : ℕ → Type 0) (sets : List ℕ) (a s i : ℕ) → a < length sets → P s → P (getD sets i 0) → P (getD (set sets a s) i 0)
@@ -103,13 +104,22 @@ module _ (p : Policy) (g : Good p) where
     pub permissions-good : a < p .permissions .count → Good (withPermissions p (putRoles (p .permissions) a s))
     permissions-good l = roles-good _ _ (g .users) (put-good _ _ a _ (g .sizes .permissions) (g .permissions) l s h)
 
--- ---- both lists of refusals begin with number 2, so that acceptance says this
+-- ---- both lists of refusals have number 2, so that acceptance says this
 pub record Known (v : View) (b : ℕ) : Type 0 where
   pub known : v .known ≡ true
   pub role : has (v .roles .used) b ≡ true
 
-pub accepted-known : (v : View) (b : ℕ) (r : Refusals) → first (refuse (unknown v b) 2 r) ≡ 0 → Known v b
-unfolding unknown
-accepted-known v b r e =
-    let t = neg-false _ (zero-head _ 2 r refl e) in
-    record { known = and-l _ _ t; role = and-r _ _ t }
+module _ (v : View) (b : ℕ) where
+  known-by : (r : Refusals) → nonzero r ≡ true → condition 2 r ≡ unknown v b → first r ≡ 0 → Known v b
+  unfolding unknown
+  known-by r z q e =
+      let t = neg-false _ (sym q ∙ passed 2 r z e) in
+      record { known = and-l _ _ t; role = and-r _ _ t }
+
+  pub assign-known : first (assignRules v b) ≡ 0 → Known v b
+  unfolding assignRules condition nonzero _and_ neg
+  assign-known e = known-by (assignRules v b) refl refl e
+
+  pub revoke-known : first (revokeRules v b) ≡ 0 → Known v b
+  unfolding revokeRules condition nonzero _and_ neg
+  revoke-known e = known-by (revokeRules v b) refl refl e

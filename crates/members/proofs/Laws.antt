@@ -1,23 +1,19 @@
 -- What the code's tests on whole sets say of a row, and what it makes of a member's roles.
 -- Assumes nothing.
 use mathlib.Core.Path.{_≡_, sym, ap, _∙_}
-use mathlib.Core.Bool.{Bool, true, false, not}
+use mathlib.Core.Bool.{Bool, true, false}
 use Prim.Native.Nat.{ℕ, _≤_, _<_, _^_}
 use native.Mathlib.Omega.{arith}
 use lib.Dec.{eqb}
 use borrow.Author.Tests.{ne-eqb}
 use Rattle.sets.specs.Tests.{_and_, _or_, neg, _implies_}
 use Rattle.sets.specs.Sets.{has, all, any, subset, Exactly}
-use Rattle.sets.proofs.Tests.{not-neg, not-so, clash, same-test, and-i, and-l, and-r, and-given, and-true, and-fails-l, or-given, neg-i, neg-e, implies-i, implies-e}
+use Rattle.sets.proofs.Tests.{not-so, clash, same-test, and-i, and-l, and-r, and-given, and-true, and-fails-l, or-given, neg-i, neg-e, implies-i, implies-e}
 use Rattle.sets.proofs.Quantifiers.{all-of, all-at, all-and, any-fails, any-none}
 use Rattle.sets.proofs.Builders.{setOf-is, exactly-is, empty-test}
 use Rattle.policy.specs.declared.Row.{Row}
 use Rattle.members.specs.declared.View.{View}
 use Rattle.members.specs.Rules.{satisfied, withRole, withoutRole}
-
--- a test that the code turns by `!`: r is what it found
-pub turned : (r t : Bool) → r ≡ t → neg t ≡ not r
-turned r t e = ap neg (sym e) ∙ sym (not-neg r)
 
 -- no member of s is one of t
 apart : (s t : ℕ) → all 64 (λ x. has s x implies neg (has t x)) ≡ neg (any 64 (λ x. has s x and has t x))

@@ -11,7 +11,7 @@ use Rattle.policy.specs.Outcome.{Refusals, first, answer}
 use Rattle.members.specs.Rules.{userView, permissionView, assignRules, revokeRules, assignUser, revokeUser, assignPermission, revokePermission}
 use Rattle.policy.proofs.Outcomes.{answer-outcome, answer-policy}
 use Rattle.policy.proofs.FirstLaws.{answer-unchanged, answer-number}
-use Rattle.members.proofs.Keep.{accepted-known, with-inside, without-inside, users-good, permissions-good}
+use Rattle.members.proofs.Keep.{assign-known, revoke-known, with-inside, without-inside, users-good, permissions-good}
 
 -- the answer r to a request on the policy p with these refusals
 pub record Promised (p : Policy) (refusals : Refusals) (r : Answer) : Type 0 where
@@ -35,31 +35,31 @@ promised p q refusals f =
 
 module _ (p : Policy) (o a b : ℕ) where
   pub assign-user : Promised p (assignRules (userView p (p .tables .assign) o a) b) (assignUser p o a b)
-  unfolding assignUser userView assignRules
+  unfolding assignUser userView
   assign-user =
       promised p _ _ (λ g e.
-      let k = accepted-known _ b _ e in
+      let k = assign-known (userView p (p .tables .assign) o a) b e in
       let l = ltb-true a _ (and-r _ _ (k .known)) in
       users-good p g a _ (with-inside _ _ a _ (g .sizes .users) (g .users) l b (k .role)) l)
 
   pub revoke-user : Promised p (revokeRules (userView p (p .tables .revoke) o a) b) (revokeUser p o a b)
-  unfolding revokeUser userView revokeRules
+  unfolding revokeUser userView
   revoke-user =
       promised p _ _ (λ g e.
-      let l = ltb-true a _ (and-r _ _ (accepted-known _ b _ e .known)) in
+      let l = ltb-true a _ (and-r _ _ (revoke-known (userView p (p .tables .revoke) o a) b e .known)) in
       users-good p g a _ (without-inside _ _ a _ (g .sizes .users) (g .users) l b) l)
 
   pub assign-permission : Promised p (assignRules (permissionView p (p .tables .assignp) o a) b) (assignPermission p o a b)
-  unfolding assignPermission permissionView assignRules
+  unfolding assignPermission permissionView
   assign-permission =
       promised p _ _ (λ g e.
-      let k = accepted-known _ b _ e in
+      let k = assign-known (permissionView p (p .tables .assignp) o a) b e in
       let l = ltb-true a _ (and-r _ _ (k .known)) in
       permissions-good p g a _ (with-inside _ _ a _ (g .sizes .permissions) (g .permissions) l b (k .role)) l)
 
   pub revoke-permission : Promised p (revokeRules (permissionView p (p .tables .revokep) o a) b) (revokePermission p o a b)
-  unfolding revokePermission permissionView revokeRules
+  unfolding revokePermission permissionView
   revoke-permission =
       promised p _ _ (λ g e.
-      let l = ltb-true a _ (and-r _ _ (accepted-known _ b _ e .known)) in
+      let l = ltb-true a _ (and-r _ _ (revoke-known (permissionView p (p .tables .revokep) o a) b e .known)) in
       permissions-good p g a _ (without-inside _ _ a _ (g .sizes .permissions) (g .permissions) l b) l)

@@ -1,4 +1,5 @@
 -- Kinds 1 to 4. Document 01, "Order, ranges, tables", "The eight requests" and "Outcome numbers".
+use mathlib.Core.Path.{_≡_}
 use mathlib.Core.Bool.{Bool}
 use Prim.Native.Nat.{ℕ}
 use lib.Dec.{eqb, ltb}
@@ -10,6 +11,7 @@ use Rattle.ranges.specs.Ranges.{inRange}
 use Rattle.policy.specs.declared.Policy.{Policy}
 use Rattle.policy.specs.declared.Row.{Row}
 use Rattle.policy.specs.declared.Table.{Table}
+use Rattle.policy.specs.declared.Tables.{Tables}
 use Rattle.policy.specs.declared.Answer.{Answer}
 use Rattle.policy.specs.Build.{emptyRow, putRoles, withUsers, withPermissions}
 use Rattle.policy.specs.Outcome.{Refusals, accept, refuse, first, answer}
@@ -38,6 +40,17 @@ userView p table o a =
       barred = reached (senior (p .orders .roles .juniors)) (getD (p .people .users .roles) a 0);
       table = table;
     }
+
+-- "Two policies that agree on these give the same outcome": what kinds 1 and 2 look at is the same in p and q, for officer o and user a. The
+-- table for kind 1 is can-assign, for kind 2 can-revoke.
+pub record Agree (table : Tables → Table) (p q : Policy) (o a : ℕ) : Type 0 where
+  pub count : p .people .users .count ≡ q .people .users .count
+  pub used : p .orders .roles .used ≡ q .orders .roles .used
+  pub roles : p .orders .roles .juniors ≡ q .orders .roles .juniors
+  pub admins : p .orders .admins .juniors ≡ q .orders .admins .juniors
+  pub office : getD (p .people .offices) o 0 ≡ getD (q .people .offices) o 0
+  pub mine : getD (p .people .users .roles) a 0 ≡ getD (q .people .users .roles) a 0
+  pub rows : table (p .tables) ≡ table (q .tables)
 
 -- "Permissions: for now a needed or barred role is tested on explicit assignment only."
 unfoldable pub permissionView : Policy → Table → ℕ → ℕ → View

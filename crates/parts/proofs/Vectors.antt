@@ -12,8 +12,8 @@ use Rattle.policy.specs.Outcome.{first}
 use Rattle.number.specs.Number.{lastOf, valueOf, isLong, isOver, endsWith, numAt}
 use Rattle.number.specs.Run.{run}
 use Rattle.sections.specs.Numbers.{setAt, countAt, memberAt}
-use Rattle.sections.specs.Sections.{numbers, juniorStep, juniorsAt, orderAt, userStep, peopleAt, memberStep, membersAt}
-use Rattle.rows.specs.Rows.{rangeAt, conditionAt, rowAt, rowStep, tableAt, rangeStep, rangesAt}
+use Rattle.sections.specs.Sections.{allBelow, juniorStep, juniorsAt, orderAt, userStep, peopleAt, memberStep, membersAt}
+use Rattle.rows.specs.Rows.{rangeAt, conditionAt, tableRowAt, rowStep, tableAt, rangeStep, rangesAt}
 use Rattle.faults.specs.Faults.{notStrict, someLow, someOpen, twoOverlap, fault}
 use Rattle.reading.specs.declared.How as how
 use Rattle.reading.specs.declared.How.the-variants.{Accepted}
@@ -52,9 +52,9 @@ abbrev finds : List (ℕ × Part)
 finds = (0, Refused 1 0) ∷ (1, Found 12 1) ∷ (4, Found 15 1) ∷ (5, Found 16 4) ∷ (6, Refused 1 0) ∷ []
 
 read : map (λ c. readPolicy (c .0) .how) readings ≡ map (λ c. c .1) readings
-unfolding readPolicy fileAt judge restAt frontAt oneAt notStrict someLow someOpen twoOverlap fault rangeAt conditionAt rowAt rowStep tableAt rangeStep rangesAt numbers juniorStep juniorsAt orderAt userStep peopleAt memberStep membersAt setAt countAt memberAt run lastOf valueOf isLong isOver endsWith numAt first within lowNotJunior notEncapsulated overlap inside encapsulated overlapInPart senior atLeast faulty has all any least setOf subset _and_ _or_ neg _implies_ _iff_
+unfolding readPolicy fileAt judge restAt frontAt oneAt notStrict someLow someOpen twoOverlap fault rangeAt conditionAt tableRowAt rowStep tableAt rangeStep rangesAt allBelow juniorStep juniorsAt orderAt userStep peopleAt memberStep membersAt setAt countAt memberAt run lastOf valueOf isLong isOver endsWith numAt first within lowNotJunior notEncapsulated overlap inside encapsulated overlapInPart senior atLeast faulty has all any least setOf subset _and_ _or_ neg _implies_ _iff_
 read = refl
 
 found : map (λ c. partAt (listed ++ (3 ∷ [])) (c .0)) finds ≡ map (λ c. c .1) finds
-unfolding partAt isTable startOf endOf fileAt judge restAt frontAt oneAt notStrict someLow someOpen twoOverlap fault rangeAt conditionAt rowAt rowStep tableAt rangeStep rangesAt numbers juniorStep juniorsAt orderAt userStep peopleAt memberStep membersAt setAt countAt memberAt run lastOf valueOf isLong isOver endsWith numAt first within lowNotJunior notEncapsulated overlap inside encapsulated overlapInPart senior atLeast faulty has all any least setOf subset _and_ _or_ neg _implies_ _iff_
+unfolding partAt isTable startOf endOf fileAt judge restAt frontAt oneAt notStrict someLow someOpen twoOverlap fault rangeAt conditionAt tableRowAt rowStep tableAt rangeStep rangesAt allBelow juniorStep juniorsAt orderAt userStep peopleAt memberStep membersAt setAt countAt memberAt run lastOf valueOf isLong isOver endsWith numAt first within lowNotJunior notEncapsulated overlap inside encapsulated overlapInPart senior atLeast faulty has all any least setOf subset _and_ _or_ neg _implies_ _iff_
 found = refl

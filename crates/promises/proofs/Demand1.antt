@@ -14,7 +14,7 @@ use Rattle.parts.proofs.Laws.{found-inside}
 use Rattle.answers.specs.Answers.{apart}
 use Rattle.answers.proofs.Laws.{place-of, length-of}
 use Rattle.entries.specs.Entries.{CheckOf, RequestOf, ListOf, QuestionOf, TableOf}
-use Rattle.entries.specs.Outcomes.{checkGives, requestGives, listingGives, questionGives, tableGives}
+use Rattle.entries.specs.Outcomes.{Refusal, checkGives, requestGives, listingGives, questionGives, tableGives}
 use Rattle.entries.proofs.Ends as ends
 use Rattle.entries.proofs.Promised as entries
 
@@ -91,10 +91,10 @@ table-inside {s} {k} {r} w = by (ends.table-ends s k w)
 -- "A refusal leaves the policy and all lent memory unchanged."
 
 module _ {s o a : List ℕ} {r : ℕ} (n : apart r .outcome ≡ 0 → ⊥) where
-  pub request-stays : {x : Request} → RequestOf s x o r a → entries.Refusal (apart r) × (a ≡ o)
+  pub request-stays : {x : Request} → RequestOf s x o r a → Refusal (apart r) × (a ≡ o)
   request-stays = entries.request-refused s n _
 
-  pub listing-stays : {officer : ℕ} → ListOf s officer o r a → entries.Refusal (apart r) × (a ≡ o)
+  pub listing-stays : {officer : ℕ} → ListOf s officer o r a → Refusal (apart r) × (a ≡ o)
   listing-stays = entries.listing-refused s n _
 
 pub policy-stays : (p : Policy) (x : Request) → (decide p x .outcome ≡ 0 → ⊥) → decide p x .policy ≡ p

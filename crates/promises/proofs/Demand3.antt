@@ -12,18 +12,16 @@ use Rattle.order.specs.Order.{senior}
 use Rattle.policy.specs.declared.Policy.{Policy}
 use Rattle.policy.specs.Good.{Good}
 use Rattle.hierarchy.specs.Rules.{site}
-use Rattle.safety.proofs.Hierarchy.{Kept}
-use Rattle.requests.specs.Requests.{decide}
-use Rattle.requests.specs.Examples.{ask}
+use Rattle.safety.specs.Dominance.{Kept, Outside}
+use Rattle.requests.specs.Requests.{ask, decide}
 use Rattle.requests.proofs.Decided.{every-request}
 use Rattle.number.specs.Number.{part}
 use Rattle.reading.specs.declared.How.the-variants.{Accepted}
 use Rattle.reading.specs.declared.Loaded.{Loaded}
 use Rattle.reading.specs.File.{readPolicy}
 use Rattle.reading.proofs.Theorems.{accepted-good}
-use Rattle.listing.specs.Listing.{accepts, entryCount, listingBytes}
-use Rattle.listing.proofs.Entries.{EntryIs, Before}
-use Rattle.listing.proofs.Promised.{Listed, bytes-long, listed-accepted, exactly, ascending, listed-safe, listed-good, Outside, untouched}
+use Rattle.listing.specs.Listing.{accepts, entryCount, entriesFor, EntryIs, InListing, InKinds, Earlier}
+use Rattle.listing.proofs.Promised.{bytes-long, listed-accepted, exactly, ascending, listed-safe, listed-good, untouched}
 use Rattle.answers.specs.Answers.{apart}
 use Rattle.entries.specs.Entries.{RequestOf, ListOf}
 use Rattle.entries.specs.Steps.{FileReached}
@@ -50,12 +48,12 @@ module _ {start file : List ℕ} (ok : readPolicy start .how ≡ Accepted) (way 
   pub counted : apart r .length ≡ entryCount s officer
   counted = done .count
 
-  same-byte : (i : ℕ) → i < 3 * entryCount s officer → getD a i 0 ≡ getD (listingBytes s officer) i 0
+  same-byte : (i : ℕ) → i < 3 * entryCount s officer → getD a i 0 ≡ getD (entriesFor s officer) i 0
   same-byte i l =
       let m = bytes-long s officer in
-      ap (λ (b : List ℕ). getD b i 0) (done .bytes) ∙ byte-in (listingBytes s officer) o i (omega (arith, m, done .room)) (omega (arith, m))
+      ap (λ (b : List ℕ). getD b i 0) (done .bytes) ∙ byte-in (entriesFor s officer) o i (omega (arith, m, done .room)) (omega (arith, m))
 
-  in-listing : {n k x y : ℕ} → n < apart r .length → EntryIs a n k x y → Listed s officer n k x y
+  in-listing : {n k x y : ℕ} → n < apart r .length → EntryIs a n k x y → InListing s officer n k x y
   in-listing {n} l e =
       let m : n < entryCount s officer = omega (arith, counted) in
       record {
@@ -67,7 +65,7 @@ module _ {start file : List ℕ} (ok : readPolicy start .how ≡ Accepted) (way 
         };
       }
 
-  in-buffer : {n k x y : ℕ} → Listed s officer n k x y → (n < apart r .length) × EntryIs a n k x y
+  in-buffer : {n k x y : ℕ} → InListing s officer n k x y → (n < apart r .length) × EntryIs a n k x y
   in-buffer {n} h =
       let m = h .below in (
         omega (arith, counted, m),
@@ -98,7 +96,7 @@ module _ {start file : List ℕ} (ok : readPolicy start .how ≡ Accepted) (way 
       (_, b .0, b .1)
 
   -- "each once, in order": an earlier entry comes before a later one, by kind, then first number, then second
-  pub in-order : {n m k x y k′ x′ y′ : ℕ} → n < m → m < apart r .length → EntryIs a n k x y → EntryIs a m k′ x′ y′ → Before k x y k′ x′ y′
+  pub in-order : {n m k x y k′ x′ y′ : ℕ} → n < m → m < apart r .length → EntryIs a n k x y → EntryIs a m k′ x′ y′ → Earlier k x y k′ x′ y′
   in-order h l d e = ascending s officer (in-listing (omega arith) d) (in-listing l e) h
 
   -- "Carrying out any of them": the request's entry was asked for what stands at n, and accepted it

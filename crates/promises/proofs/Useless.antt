@@ -17,21 +17,19 @@ use Rattle.policy.specs.declared.Policy.{Policy}
 use Rattle.policy.specs.Outcome.{first, answer}
 use Rattle.hierarchy.specs.Rules.{site, edgeIn, rowAllows, mayModify, unknownRole, unknownPair, spoils, insertRules, insertEdge}
 use Rattle.requests.specs.declared.Request.{Request}
-use Rattle.requests.specs.Requests.{decide}
-use Rattle.requests.specs.Examples.{ask}
+use Rattle.requests.specs.Requests.{ask, decide}
 use Rattle.requests.proofs.Decided.{every-request}
 use Rattle.number.specs.Number.{part, lastOf, valueOf, isLong, isOver, endsWith, numAt, groupsOf, numBytes}
 use Rattle.number.specs.Run.{run}
 use Rattle.sections.specs.Numbers.{setAt, countAt, memberAt}
-use Rattle.sections.specs.Sections.{numbers, juniorStep, juniorsAt, orderAt, userStep, peopleAt, memberStep, membersAt}
-use Rattle.rows.specs.Rows.{rangeAt, conditionAt, rowAt, rowStep, tableAt, rangeStep, rangesAt}
+use Rattle.sections.specs.Sections.{allBelow, juniorStep, juniorsAt, orderAt, userStep, peopleAt, memberStep, membersAt}
+use Rattle.rows.specs.Rows.{rangeAt, conditionAt, tableRowAt, rowStep, tableAt, rangeStep, rangesAt}
 use Rattle.faults.specs.Faults.{notStrict, someLow, someOpen, twoOverlap, fault}
 use Rattle.reading.specs.declared.How.the-variants.{Accepted, Refused}
 use Rattle.reading.specs.declared.Loaded.{Loaded}
 use Rattle.reading.specs.File.{oneAt, frontAt, restAt, judge, fileAt, readPolicy}
 use Rattle.layout.specs.Layout.{sectionsBytes, policyBytes}
-use Rattle.listing.specs.Listing.{entryCount}
-use Rattle.listing.proofs.Entries.{EntryIs}
+use Rattle.listing.specs.Listing.{entryCount, EntryIs}
 use Rattle.answers.specs.Answers.{apart}
 use Rattle.answers.proofs.Laws.{outcome-of}
 use Rattle.entries.specs.Entries.{RequestOf, ListOf}
@@ -54,7 +52,7 @@ given = readPolicy example .policy
 
 -- it is a policy file with one user, the request is accepted, and on the policy after it the same request is refused with 5
 facts : (readPolicy example .how ≡ Accepted) × (decide given edge .outcome ≡ 0) × (decide (decide given edge .policy) edge .outcome ≡ 5) × (given .people .users .count ≡ 1)
-unfolding readPolicy fileAt judge restAt frontAt oneAt notStrict someLow someOpen twoOverlap fault rangeAt conditionAt rowAt rowStep tableAt rangeStep rangesAt numbers juniorStep juniorsAt orderAt userStep peopleAt memberStep membersAt setAt countAt memberAt run lastOf valueOf isLong isOver endsWith numAt first answer within lowNotJunior notEncapsulated overlap unsound inside encapsulated overlapInPart senior atLeast reaches reached comparable tabFrom relate faulty inserted insert has all any least setOf subset lowestFree size site edgeIn rowAllows mayModify unknownRole unknownPair spoils insertRules insertEdge decide _and_ _or_ neg _implies_ _iff_
+unfolding readPolicy fileAt judge restAt frontAt oneAt notStrict someLow someOpen twoOverlap fault rangeAt conditionAt tableRowAt rowStep tableAt rangeStep rangesAt allBelow juniorStep juniorsAt orderAt userStep peopleAt memberStep membersAt setAt countAt memberAt run lastOf valueOf isLong isOver endsWith numAt first answer within lowNotJunior notEncapsulated overlap unsound inside encapsulated overlapInPart senior atLeast reaches reached comparable tabFrom relate faulty inserted insert has all any least setOf subset lowestFree size site edgeIn rowAllows mayModify unknownRole unknownPair spoils insertRules insertEdge decide _and_ _or_ neg _implies_ _iff_
 facts = (refl, refl, refl, refl)
 
 -- an input that is no policy file

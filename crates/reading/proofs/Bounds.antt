@@ -10,7 +10,7 @@ use lib.Dec.{ltb, eqb}
 use lib.ListN.{length}
 use Rattle.sets.specs.Tests.{pick}
 use Rattle.number.specs.Run.{go, stop}
-use Rattle.sections.specs.Sections.{numbers}
+use Rattle.sections.specs.Sections.{allBelow}
 use Rattle.sections.proofs.Bounds.{NumWithin, Within, within-go, within-stop, within-num, within-step, tested-within, order-within, people-within, members-within}
 use Rattle.rows.proofs.Bounds.{table-within, ranges-within, table-some, ranges-some}
 use Rattle.faults.specs.Faults.{fault}
@@ -30,8 +30,8 @@ module _ (s : List ℕ) where
   unfolding frontAt
   front-within =
       within-num _ _ (one-within (omega arith)) (λ one a q k l.
-      within-step _ _ (order-within s (numbers 64) l) (λ b roles r m n.
-      within-step _ _ (order-within s (numbers 16) n) (λ c admins t o p.
+      within-step _ _ (order-within s (allBelow 64) l) (λ b roles r m n.
+      within-step _ _ (order-within s (allBelow 16) n) (λ c admins t o p.
       within-step _ _ (people-within s (roles .used) (admins .used) p) (λ d people u v w.
       within-step _ _ (members-within s (roles .used) w) (λ e permissions x y z. within-go (omega arith) z)))))
 
@@ -93,7 +93,7 @@ rest-placed s {roles} {admins} h k =
 pub front-end : (s : List ℕ) {e : ℕ} {f : Front} → FrontSteps s e f → e ≤ length s
 front-end s {e} {f} k =
     let a = one-within s {at = 0} (omega arith) .ends _ _ (k .one .1) .1 in
-    let b = order-within s (numbers 64) a .ends _ _ (k .roles) .1 in
-    let c = order-within s (numbers 16) b .ends _ _ (k .admins) .1 in
+    let b = order-within s (allBelow 64) a .ends _ _ (k .roles) .1 in
+    let c = order-within s (allBelow 16) b .ends _ _ (k .admins) .1 in
     let d = people-within s _ _ c .ends _ _ (k .people) .1 in
     members-within s _ d .ends _ _ (k .permissions) .1

@@ -3,18 +3,18 @@
 use mathlib.Core.Path.{_≡_, refl}
 use Rattle.sets.specs.Sets.{setOf}
 use Rattle.number.specs.Run.{Step, go, stop}
-use Rattle.sections.specs.Sections.{numbers}
+use Rattle.sections.specs.Sections.{allBelow}
 use Rattle.sections.proofs.Answers.{Answers}
 use Rattle.reading.specs.declared.Loaded.{Loaded}
 use Rattle.reading.specs.File.{File, frontRead, restRead, fileRead, loaded}
 
 -- ---- the numbers there are, as the code has them
-pub all-roles : numbers 64 ≡ 0xFFFFFFFFFFFFFFFF
-unfolding numbers setOf
+pub all-roles : allBelow 64 ≡ 0xFFFFFFFFFFFFFFFF
+unfolding allBelow setOf
 all-roles = refl
 
-pub all-admins : numbers 16 ≡ 0xFFFF
-unfolding numbers setOf
+pub all-admins : allBelow 16 ≡ 0xFFFF
+unfolding allBelow setOf
 all-admins = refl
 
 -- ---- what is answered

@@ -17,7 +17,7 @@ use Rattle.policy.specs.declared.Ranges.{Ranges}
 use Rattle.number.specs.Run.{go, stop}
 use Rattle.number.specs.declared.Num.the-variants.{Value}
 use Rattle.number.proofs.Runs.{on-num, on-step}
-use Rattle.sections.specs.Sections.{numbers, orderAt, peopleAt, membersAt}
+use Rattle.sections.specs.Sections.{allBelow, orderAt, peopleAt, membersAt}
 use Rattle.sections.proofs.Right.{OrderRight, order-right, PeopleRight, people-right, MembersRight, members-right}
 use Rattle.rows.specs.Rows.{tableAt, rangesAt}
 use Rattle.rows.proofs.Right.{TableRight, table-right, RangesRight, ranges-right}
@@ -35,8 +35,8 @@ pub record FrontSteps (s : List ℕ) (e : ℕ) (f : Front) : Type 0 where
   pub third : ℕ
   pub fourth : ℕ
   pub one : (x : ℕ) × (oneAt s 0 ≡ Value x first)
-  pub roles : orderAt s (numbers 64) first ≡ go second (f .orders .roles)
-  pub admins : orderAt s (numbers 16) second ≡ go third (f .orders .admins)
+  pub roles : orderAt s (allBelow 64) first ≡ go second (f .orders .roles)
+  pub admins : orderAt s (allBelow 16) second ≡ go third (f .orders .admins)
   pub people : peopleAt s (f .orders .roles .used) (f .orders .admins .used) third ≡ go fourth (f .people)
   pub permissions : membersAt s (f .orders .roles .used) fourth ≡ go e (f .permissions)
 
@@ -44,14 +44,14 @@ pub front-steps : (s : List ℕ) {e : ℕ} {f : Front} → frontAt s ≡ go e f 
 unfolding frontAt
 front-steps s {e} {f} q =
     let one = on-num (oneAt s 0) _ q in
-    let r = on-step (orderAt s (numbers 64) (one .1)) _ (one .3) in
-    let a = on-step (orderAt s (numbers 16) (r .0)) _ (r .3) in
+    let r = on-step (orderAt s (allBelow 64) (one .1)) _ (one .3) in
+    let a = on-step (orderAt s (allBelow 16) (r .0)) _ (r .3) in
     let u = on-step (peopleAt s (r .1 .used) (a .1 .used) (a .0)) _ (a .3) in
     let p = on-step (membersAt s (r .1 .used) (u .0)) _ (u .3) in
     with-ends (one .2) (r .2) (a .2) (u .2) (p .2) (p .3)
   where
-    with-ends : {x a b c d k : ℕ} {roles admins : Order} {people : People} {permissions : Members} → oneAt s 0 ≡ Value x a → orderAt s (numbers 64) a ≡ go b roles
-        → orderAt s (numbers 16) b ≡ go c admins → peopleAt s (roles .used) (admins .used) c ≡ go d people → membersAt s (roles .used) d ≡ go k permissions
+    with-ends : {x a b c d k : ℕ} {roles admins : Order} {people : People} {permissions : Members} → oneAt s 0 ≡ Value x a → orderAt s (allBelow 64) a ≡ go b roles
+        → orderAt s (allBelow 16) b ≡ go c admins → peopleAt s (roles .used) (admins .used) c ≡ go d people → membersAt s (roles .used) d ≡ go k permissions
         → go k (front roles admins people permissions) ≡ go e f → FrontSteps s e f
     with-ends {x} {a} {b} {c} {d} {k} {roles} {admins} {people} {permissions} one ro ad pe me q =
         let z : front roles admins people permissions ≡ f = cc in

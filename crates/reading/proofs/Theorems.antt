@@ -9,7 +9,7 @@ use Rattle.sets.proofs.Tests.{or-fails-l, or-fails-r}
 use Rattle.policy.specs.Build.{emptyPolicy}
 use Rattle.policy.specs.Good.{Good}
 use Rattle.number.specs.Run.{Step, go, stop}
-use Rattle.sections.proofs.Bounds.{Refusal}
+use Rattle.sections.proofs.Bounds.{RefusedWithin}
 use Rattle.faults.proofs.Means.{no-fault, strict-means, sound-rows}
 use Rattle.reading.specs.declared.How.the-variants.{Accepted, Refused}
 use Rattle.reading.specs.File.{File, fileAt, loaded, readPolicy}
@@ -99,6 +99,6 @@ module _ (s : List ℕ) where
     refused-empty = rw (of-refused (fileAt s) q)
 
     -- the number is 20 to 27, and the place at most the input's length
-    pub refused-within : Refusal (length s) c p
+    pub refused-within : RefusedWithin (length s) c p
     unfolding readPolicy
     refused-within = file-within s .refuses c p (of-refused (fileAt s) q)

@@ -17,7 +17,7 @@ use Rattle.number.specs.Run.{Step, go, stop, onNum, onStep}
 use Rattle.number.specs.declared.Num.{Num}
 use Rattle.sections.specs.declared.Ended.{Ended}
 use Rattle.sections.specs.declared.Ended.the-variants.{At, Stopped}
-use Rattle.sections.specs.Sections.{numbers, orderAt, peopleAt, membersAt}
+use Rattle.sections.specs.Sections.{allBelow, orderAt, peopleAt, membersAt}
 use Rattle.rows.specs.Rows.{tableAt, rangesAt}
 use Rattle.reading.specs.declared.Front.{Front}
 use Rattle.reading.specs.declared.FrontRead.{FrontRead}
@@ -42,7 +42,7 @@ front roles admins people permissions =
 
 unfoldable pub frontAt : List ℕ → Step Front
 frontAt s =
-    onNum (oneAt s 0) (λ one a. onStep (orderAt s (numbers 64) a) (λ b roles. onStep (orderAt s (numbers 16) b) (λ c admins.
+    onNum (oneAt s 0) (λ one a. onStep (orderAt s (allBelow 64) a) (λ b roles. onStep (orderAt s (allBelow 16) b) (λ c admins.
     onStep (peopleAt s (roles .used) (admins .used) c) (λ d people. onStep (membersAt s (roles .used) d) (λ e permissions.
     go e (front roles admins people permissions))))))
 

@@ -1,39 +1,53 @@
--- By kind: what holds at each of the eight kinds, and at any other, holds of every request.
+-- By kind: what a test finds of every kind, or of every kind with its row of the code's table, it finds of every number; and a number that is
+-- none of 1 to 8 has kind none.
 -- Assumes nothing.
-use mathlib.Core.Path.{_≡_, sym, subst}
-use mathlib.Core.Bool.{true, false}
-use Prim.Native.Nat.{ℕ}
-use lib.Dec.{eqb}
-use borrow.Author.Tests.{eqb-true}
-use Rattle.sets.proofs.Tests.{by-test}
-use Rattle.requests.specs.declared.Request.{Request}
+use mathlib.Core.Path.{_≡_, refl, ap}
+use mathlib.Core.Logic.{_⊎_, inl, inr, ⊎-elim}
+use mathlib.Core.Bool.{Bool, true, false}
+use mathlib.Core.List.{List, [], _∷_}
+use Prim.Native.Nat.{ℕ, zero, suc, _<_}
+use native.Mathlib.Omega.{arith}
+use lib.ListN.{getD, List·getD-eq-default}
+use Rattle.sets.specs.Tests.{_and_}
+use Rattle.sets.proofs.Tests.{clash, and-l, and-r}
+use Rattle.requests.specs.Kinds.{Kind, none, kinds, kindOf}
+use Rattle.requests.specs.Numbers.{NUMBERS, tableRow}
 
--- the kind is none of the eight
-pub record Other (k : ℕ) : Type 0 where
-  pub not1 : eqb k 1 ≡ false
-  pub not2 : eqb k 2 ≡ false
-  pub not3 : eqb k 3 ≡ false
-  pub not4 : eqb k 4 ≡ false
-  pub not5 : eqb k 5 ≡ false
-  pub not6 : eqb k 6 ≡ false
-  pub not7 : eqb k 7 ≡ false
-  pub not8 : eqb k 8 ≡ false
+-- ---- one test for the whole table: a kind and its row
 
-pub kind-cases : (P : ℕ → Type 0) → P 1 → P 2 → P 3 → P 4 → P 5 → P 6 → P 7 → P 8 → ((k : ℕ) → Other k → P k) → (k : ℕ) → P k
-kind-cases P p1 p2 p3 p4 p5 p6 p7 p8 other k =
-    by-test (eqb k 1) (λ e. at 1 e p1) (λ e1.
-    by-test (eqb k 2) (λ e. at 2 e p2) (λ e2.
-    by-test (eqb k 3) (λ e. at 3 e p3) (λ e3.
-    by-test (eqb k 4) (λ e. at 4 e p4) (λ e4.
-    by-test (eqb k 5) (λ e. at 5 e p5) (λ e5.
-    by-test (eqb k 6) (λ e. at 6 e p6) (λ e6.
-    by-test (eqb k 7) (λ e. at 7 e p7) (λ e7.
-    by-test (eqb k 8) (λ e. at 8 e p8) (λ e8.
-    other k (record { not1 = e1; not2 = e2; not3 = e3; not4 = e4; not5 = e5; not6 = e6; not7 = e7; not8 = e8 })))))))))
+unfoldable pub every : (Kind → ℕ → Bool) → List Kind → List ℕ → Bool
+every f [] [] = true
+every f [] (n ∷ l) = false
+every f (k ∷ m) [] = false
+every f (k ∷ m) (n ∷ l) = f k n and every f m l
+
+-- the d-th kind and row pass; and where there is none, what stands in their place does
+in-lists : (f : Kind → ℕ → Bool) (m : List Kind) (l : List ℕ) (c : Kind) (d : ℕ) → every f m l ≡ true → f c d ≡ true → (k : ℕ)
+    → f (getD m k c) (getD l k d) ≡ true
+unfolding every
+in-lists f [] [] c d t e k = e
+in-lists f [] (n ∷ l) c d t e k = clash t refl
+in-lists f (x ∷ m) [] c d t e k = clash t refl
+in-lists f (x ∷ m) (n ∷ l) c d t e zero = and-l _ _ t
+in-lists f (x ∷ m) (n ∷ l) c d t e (suc k) = in-lists f m l c d (and-r _ _ t) e k
+
+pub each-kind : (f : Kind → ℕ → Bool) → every f kinds NUMBERS ≡ true → (k : ℕ) → f (kindOf k) (tableRow k) ≡ true
+unfolding every NUMBERS tableRow
+each-kind f t k = in-lists f kinds NUMBERS none 2 t (and-l _ _ t) k
+
+-- ---- a number that is none of 1 to n, in the form in which a `match` with those arms leaves it
+
+abbrev pub Rest : ℕ → ℕ → Type 0
+Rest zero k = Unit
+Rest (suc n) k = Rest n k × (k ≡ suc n → ⊥)
+
+beyond : (n k : ℕ) → Rest n k → (k ≡ 0) ⊎ (n < k)
+beyond zero zero r = inl refl
+beyond zero (suc k) r = inr (omega arith)
+beyond (suc n) k r = ⊎-elim (λ z. inl z) (λ l. inr (further l (r .1))) (beyond n k (r .0))
   where
-    at : (n : ℕ) → eqb k n ≡ true → P n → P k
-    at n e x = subst P (sym (eqb-true k n e)) x
+    further : n < k → (k ≡ suc n → ⊥) → suc n < k
+    further l d = omega arith
 
--- the request of another kind with the same three numbers
-abbrev pub ofKind : Request → ℕ → Request
-ofKind q k = record { officer = q .officer; kind = k; a = q .a; b = q .b }
+pub rest-none : (k : ℕ) → Rest 8 k → kindOf k ≡ none
+rest-none k r = ⊎-elim (λ z. ap kindOf z) (λ l. List·getD-eq-default kinds none l) (beyond 8 k r)

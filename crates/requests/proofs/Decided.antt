@@ -1,17 +1,16 @@
 -- What every request gives, of every kind: its outcome is the first refusal that holds, a number that its kind may give; a refusal leaves the
 -- policy; and a good policy stays good, so that every policy that is reached from a good one is good.
 -- Assumes nothing.
-use mathlib.Core.Path.{_≡_, refl, ap, _∙_}
+use mathlib.Core.Path.{_≡_, refl, sym, ap, _∙_}
+use mathlib.Core.Logic.{⊎-elim}
 use mathlib.Core.Bool.{Bool, true, false}
-use mathlib.Core.List.{List, [], _∷_}
-use Prim.Native.Nat.{ℕ, zero, suc, _≤_}
+use Prim.Native.Nat.{ℕ, _≤_}
 use native.Mathlib.Omega.{arith}
 use lib.Dec.{eqb}
-use lib.ListN.{getD}
 use Rattle.sets.specs.Tests.{_and_, _or_, pick}
-use Rattle.sets.specs.Sets.{lowestFree}
+use Rattle.sets.specs.Sets.{has, lowestFree}
 use Rattle.sets.proofs.Quantifiers.{least-le}
-use Rattle.sets.proofs.Tests.{clash, and-l, and-r}
+use Rattle.sets.proofs.Tests.{and-l, and-r, or-cases}
 use Rattle.policy.specs.declared.Policy.{Policy}
 use Rattle.policy.specs.declared.Answer.{Answer}
 use Rattle.policy.specs.Good.{Good}
@@ -24,10 +23,12 @@ use Rattle.hierarchy.specs.declared.Site.{Site}
 use Rattle.hierarchy.specs.Rules.{site, newRole, createRole, deleteRole, insertEdge, deleteEdge, createRules, deleteRules, insertRules, cutRules}
 use Rattle.safety.proofs.Goodness.{create-good, delete-good, insert-good, cut-good}
 use Rattle.requests.specs.declared.Request.{Request}
-use Rattle.requests.specs.Requests.{decide, rulesOf}
-use Rattle.requests.specs.Numbers.{among, numbers, mayGive}
+use Rattle.requests.specs.Kinds.{Kind, none, assignsUser, revokesUser, assignsPermission, revokesPermission, createsRole, deletesRole, insertsEdge, deletesEdge, kindOf}
+use Rattle.requests.specs.Requests.{answerTo, refusalsOf, decide, rulesOf}
+use Rattle.requests.specs.Numbers.{mayGive, NUMBERS, tableRow}
 use Rattle.requests.specs.Reached.{Reached, here, next}
-use Rattle.requests.proofs.ByKind.{Other, kind-cases, ofKind}
+use Rattle.requests.proofs.ByKind.{every, each-kind}
+use Rattle.requests.proofs.Table.{row-is}
 
 -- what is promised of an answer
 pub record Decided (p : Policy) (refusals : Refusals) (r : Answer) : Type 0 where
@@ -65,74 +66,54 @@ unknown-kind p = record { outcome = refl; unchanged = λ z. refl; number = λ z.
 
 pub every-request : (p : Policy) (q : Request) → Decided p (rulesOf p q) (decide p q)
 unfolding decide rulesOf assignUser revokeUser assignPermission revokePermission createRole deleteRole insertEdge deleteEdge
-every-request p q =
-    kind-cases (λ k. Decided p (rulesOf p (ofKind q k)) (decide p (ofKind q k)))
-    (decided p _ _ _ (omega arith) (members.assign-user p o a b .good))
-    (decided p _ _ _ (omega arith) (members.revoke-user p o a b .good))
-    (decided p _ _ _ (omega arith) (members.assign-permission p o a b .good))
-    (decided p _ _ _ (omega arith) (members.revoke-permission p o a b .good))
-    (decided p _ _ _ (new-role (site p o)) (λ g. create-good p o g a b))
-    (decided p _ _ _ (omega arith) (λ g. delete-good p o g a b))
-    (decided p _ _ _ (omega arith) (λ g. insert-good p o g a b))
-    (decided p _ _ _ (omega arith) (λ g. cut-good p o g a b))
-    (λ k n. rw (n .not1, n .not2, n .not3, n .not4, n .not5, n .not6, n .not7, n .not8) (unknown-kind p))
-    (q .kind)
+every-request p q = by (kindOf (q .kind)) (q .officer) (q .a) (q .b)
   where
-    o : ℕ
-    o = q .officer
+    by : (k : Kind) (o a b : ℕ) → Decided p (refusalsOf k p o a b) (answerTo k p o a b)
+    by assignsUser o a b = decided p _ _ _ (omega arith) (members.assign-user p o a b .good)
+    by revokesUser o a b = decided p _ _ _ (omega arith) (members.revoke-user p o a b .good)
+    by assignsPermission o a b = decided p _ _ _ (omega arith) (members.assign-permission p o a b .good)
+    by revokesPermission o a b = decided p _ _ _ (omega arith) (members.revoke-permission p o a b .good)
+    by createsRole o a b = decided p _ _ _ (new-role (site p o)) (λ g. create-good p o g a b)
+    by deletesRole o a b = decided p _ _ _ (omega arith) (λ g. delete-good p o g a b)
+    by insertsEdge o a b = decided p _ _ _ (omega arith) (λ g. insert-good p o g a b)
+    by deletesEdge o a b = decided p _ _ _ (omega arith) (λ g. cut-good p o g a b)
+    by none o a b = unknown-kind p
 
-    a : ℕ
-    a = q .a
+-- ---- the constant table: "one rule proved over all entries and used for every request"
 
-    b : ℕ
-    b = q .b
+-- each number of the refusals, and acceptance, is in the row
+names-in : ℕ → Refusals → Bool
+names-in row accept = has row 0
+names-in row (refuse b n r) = has row n and names-in row r
 
--- ---- the table of numbers by kind: one rule, for every request
--- each number of the refusals, and acceptance, is in the list
-given : List ℕ → Refusals → Bool
-given l accept = among 0 l
-given l (refuse b n r) = among n l and given l r
+first-named : (row : ℕ) (r : Refusals) → names-in row r ≡ true → has row (first r) ≡ true
+unfolding names-in first
+first-named row accept e = e
+first-named row (refuse true n r) e = and-l _ _ e
+first-named row (refuse false n r) e = first-named row r (and-r _ _ e)
 
-first-given : (l : List ℕ) (r : Refusals) → given l r ≡ true → among (first r) l ≡ true
-unfolding given first
-first-given l accept e = e
-first-given l (refuse true n r) e = and-l _ _ e
-first-given l (refuse false n r) e = first-given l r (and-r _ _ e)
+-- the row has all that is named, or at least what is given, as where the first condition is always true
+fits : ℕ → Refusals → Bool
+fits row r = names-in row r or has row (first r)
 
--- an unknown kind's row is the first, or past the last
-other-row : (k : ℕ) → Other k → getD numbers k (1 ∷ []) ≡ (1 ∷ [])
-unfolding numbers
-other-row zero n = refl
-other-row (suc zero) n = clash refl (n .not1)
-other-row (suc (suc zero)) n = clash refl (n .not2)
-other-row (suc (suc (suc zero))) n = clash refl (n .not3)
-other-row (suc (suc (suc (suc zero)))) n = clash refl (n .not4)
-other-row (suc (suc (suc (suc (suc zero))))) n = clash refl (n .not5)
-other-row (suc (suc (suc (suc (suc (suc zero)))))) n = clash refl (n .not6)
-other-row (suc (suc (suc (suc (suc (suc (suc zero))))))) n = clash refl (n .not7)
-other-row (suc (suc (suc (suc (suc (suc (suc (suc zero)))))))) n = clash refl (n .not8)
-other-row (suc (suc (suc (suc (suc (suc (suc (suc (suc k))))))))) n = refl
+first-fits : (row : ℕ) (r : Refusals) → fits row r ≡ true → has row (first r) ≡ true
+unfolding fits
+first-fits row r e = ⊎-elim (first-named row r) (λ t. t) (or-cases _ _ e)
 
 module _ (p : Policy) (q : Request) where
-  -- what the rules of a kind name is in its row
-  in-row : (k : ℕ) → given (getD numbers k (1 ∷ [])) (rulesOf p (ofKind q k)) ≡ true → mayGive k (first (rulesOf p (ofKind q k))) ≡ true
-  unfolding mayGive
-  in-row k e = first-given _ _ e
+  -- one test, computed over the whole table: what the refusals of each kind name is in its row
+  all-fit : (k : ℕ) → fits (tableRow k) (refusalsOf (kindOf k) p (q .officer) (q .a) (q .b)) ≡ true
+  unfolding every NUMBERS has fits names-in first assignRules revokeRules createRules deleteRules insertRules cutRules _and_ _or_
+  all-fit k = each-kind (λ c row. fits row (refusalsOf c p (q .officer) (q .a) (q .b))) refl k
 
-  other-number : (k : ℕ) → Other k → mayGive k (first (rulesOf p (ofKind q k))) ≡ true
-  unfolding mayGive rulesOf first among _or_
-  other-number k n = rw (other-row k n) (rw (n .not1, n .not2, n .not3, n .not4, n .not5, n .not6, n .not7, n .not8))
+  -- the rule: the outcome of every request is in the row of its kind
+  pub outcome-in-row : has (tableRow (q .kind)) (decide p q .outcome) ≡ true
+  unfolding rulesOf
+  outcome-in-row = ap (has (tableRow (q .kind))) (every-request p q .outcome) ∙ first-fits _ _ (all-fit (q .kind))
 
-  pub numbers-given : mayGive (q .kind) (first (rulesOf p q)) ≡ true
-  unfolding rulesOf numbers given among assignRules revokeRules createRules deleteRules insertRules cutRules _and_ _or_
-  numbers-given =
-      kind-cases (λ k. mayGive k (first (rulesOf p (ofKind q k))) ≡ true)
-      (in-row 1 refl) (in-row 2 refl) (in-row 3 refl) (in-row 4 refl) (in-row 5 refl) (in-row 6 refl) (in-row 7 refl) (in-row 8 refl)
-      other-number (q .kind)
-
-  -- so is every outcome
+  -- so it is one that document 01's table has for the kind
   pub outcome-given : mayGive (q .kind) (decide p q .outcome) ≡ true
-  outcome-given = ap (mayGive (q .kind)) (every-request p q .outcome) ∙ numbers-given
+  outcome-given = sym (row-is (q .kind) _) ∙ outcome-in-row
 
 -- ---- every policy reached from a good one is good
 pub reached-good : {start p : Policy} → Good start → Reached start p → Good p

@@ -1,5 +1,5 @@
-pub mod Table
 pub mod ByKind
+pub mod Table
 pub mod Decided
 pub mod Safe
 pub mod Cases

@@ -12,7 +12,8 @@ use Rattle.policy.specs.Outcome.{first, answer}
 use Rattle.policy.proofs.Outcomes.{accepted-is}
 use Rattle.hierarchy.specs.Rules.{site, createRole, deleteRole, insertEdge, deleteEdge}
 use Rattle.hierarchy.proofs.Accepted.{delete-ok}
-use Rattle.safety.proofs.Hierarchy.{Kept, good-site, create-kept, remove-kept, insert-kept, cut-kept}
+use Rattle.safety.specs.Dominance.{Kept}
+use Rattle.safety.proofs.Hierarchy.{good-site, create-kept, remove-kept, insert-kept, cut-kept}
 use Rattle.safety.proofs.Goodness.{ranges-free}
 use Rattle.requests.specs.declared.Request.{Request}
 use Rattle.requests.specs.Requests.{decide, rulesOf}

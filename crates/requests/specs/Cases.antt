@@ -5,7 +5,8 @@ use Rattle.policy.specs.declared.Policy.{Policy}
 use Rattle.policy.specs.Build.{withRoles, withUsers}
 use Rattle.policy.specs.Outcome.{refused, accepted}
 use Rattle.requests.specs.declared.Request.{Request}
-use Rattle.requests.specs.Examples.{orderOf, membersOf, F, chain, ask, Case}
+use Rattle.requests.specs.Requests.{ask}
+use Rattle.requests.specs.Examples.{orderOf, membersOf, F, chain, Case}
 
 -- refused with a number; accepted, with other roles, with other users' roles
 abbrev pub gives : Policy → Request → ℕ → Case

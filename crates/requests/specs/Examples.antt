@@ -63,10 +63,6 @@ chain =
       modify = record { count = 2; rows = padded 64 noRow (modifyRow 0 0 2 ∷ modifyRow 0 1 4 ∷ []) };
     }
 
--- a request: officer, kind, a, b
-abbrev pub ask : ℕ → ℕ → ℕ → ℕ → Request
-ask o k a b = record { officer = o; kind = k; a = a; b = b }
-
 -- one case: the policy, the request, and the whole answer
 pub record Case : Type 0 where
   pub before : Policy

@@ -6,26 +6,33 @@ use Prim.Native.Nat.{ℕ}
 use lib.Dec.{eqb}
 use lib.ListN.{getD}
 use Rattle.sets.specs.Tests.{_or_}
+use Rattle.requests.specs.Kinds.{Kind, none, assignsUser, revokesUser, assignsPermission, revokesPermission, createsRole, deletesRole, insertsEdge, deletesEdge, kindOf}
 
 -- n is in the list
 unfoldable pub among : ℕ → List ℕ → Bool
 among n [] = false
 among n (m ∷ l) = eqb n m or among n l
 
--- the rows by kind from 0 on; the first is that of an unknown kind, and so is what stands past the last
-unfoldable pub numbers : List (List ℕ)
-numbers =
-    (1 ∷ [])
-    ∷ (0 ∷ 2 ∷ 3 ∷ 4 ∷ 5 ∷ [])
-    ∷ (0 ∷ 2 ∷ 3 ∷ 5 ∷ [])
-    ∷ (0 ∷ 2 ∷ 3 ∷ 4 ∷ 5 ∷ [])
-    ∷ (0 ∷ 2 ∷ 3 ∷ 5 ∷ [])
-    ∷ (0 ∷ 2 ∷ 3 ∷ 5 ∷ 6 ∷ 9 ∷ [])
-    ∷ (0 ∷ 1 ∷ 2 ∷ 3 ∷ 7 ∷ 8 ∷ [])
-    ∷ (0 ∷ 2 ∷ 3 ∷ 5 ∷ 9 ∷ [])
-    ∷ (0 ∷ 2 ∷ 3 ∷ 5 ∷ 9 ∷ [])
-    ∷ []
+-- the numbers of each kind, acceptance with them
+unfoldable pub numbers : Kind → List ℕ
+numbers assignsUser = 0 ∷ 2 ∷ 3 ∷ 4 ∷ 5 ∷ []
+numbers revokesUser = 0 ∷ 2 ∷ 3 ∷ 5 ∷ []
+numbers assignsPermission = 0 ∷ 2 ∷ 3 ∷ 4 ∷ 5 ∷ []
+numbers revokesPermission = 0 ∷ 2 ∷ 3 ∷ 5 ∷ []
+numbers createsRole = 0 ∷ 2 ∷ 3 ∷ 5 ∷ 6 ∷ 9 ∷ []
+numbers deletesRole = 0 ∷ 1 ∷ 2 ∷ 3 ∷ 7 ∷ 8 ∷ []
+numbers insertsEdge = 0 ∷ 2 ∷ 3 ∷ 5 ∷ 9 ∷ []
+numbers deletesEdge = 0 ∷ 2 ∷ 3 ∷ 5 ∷ 9 ∷ []
+numbers none = 1 ∷ []
 
 -- a request of the kind may give the number
 unfoldable pub mayGive : ℕ → ℕ → Bool
-mayGive kind n = among n (getD numbers kind (1 ∷ []))
+mayGive kind n = among n (numbers (kindOf kind))
+
+-- the same as the code holds it, a constant table of sets: the row of each kind by its number, from 0 on; the first, {1}, is also the row of
+-- every number past the last
+unfoldable pub NUMBERS : List ℕ
+NUMBERS = 2 ∷ 61 ∷ 45 ∷ 61 ∷ 45 ∷ 621 ∷ 399 ∷ 557 ∷ 557 ∷ []
+
+unfoldable pub tableRow : ℕ → ℕ
+tableRow kind = getD NUMBERS kind 2

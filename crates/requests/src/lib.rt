@@ -2,7 +2,7 @@
 ghost use mathlib.Core.Path.{_≡_};
 ghost use Rattle.policy.specs.Good.{Sizes};
 ghost use Rattle.requests.specs.Requests.{decide};
-ghost use Rattle.requests.specs.Numbers.{mayGive};
+ghost use Rattle.requests.specs.Numbers.{mayGive, tableRow};
 use hierarchy::create_role;
 use hierarchy::delete_edge;
 use hierarchy::delete_role;
@@ -26,14 +26,21 @@ pub struct Request {
 // By kind the set of the numbers that a request may give, acceptance with them; the first row is for a kind that is none of the eight.
 const NUMBERS: [u64; 9] = [2, 61, 45, 61, 45, 621, 399, 557, 557];
 
+// The row of the table for a kind.
+pub fn table_row(kind: u64) -> u64
+    ensures { λ r. ⌜ r ≡ tableRow kind ⌝ }
+{
+    if 9 <= kind {
+        return NUMBERS[0];
+    }
+    NUMBERS[kind as usize]
+}
+
 // May a request of the kind give the outcome?
 pub fn may_give(kind: u64, outcome: u64) -> bool
     ensures { λ r. ⌜ r ≡ mayGive kind outcome ⌝ }
 {
-    if 9 <= kind {
-        return contains(NUMBERS[0], outcome);
-    }
-    contains(NUMBERS[kind as usize], outcome)
+    contains(table_row(kind), outcome)
 }
 
 // The answer to any request, whatever its four numbers.

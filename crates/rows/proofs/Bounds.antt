@@ -8,7 +8,7 @@ use native.Mathlib.Omega.{arith}
 use lib.ListN.{length, replicate}
 use Rattle.sets.specs.Tests.{pick}
 use Rattle.ranges.specs.declared.ModifyRow.{ModifyRow}
-use Rattle.ranges.specs.Rows as ranges-rows
+use Rattle.ranges.specs.Rows.{noRow}
 use Rattle.policy.specs.declared.Table.{Table}
 use Rattle.policy.specs.declared.Ranges.{Ranges}
 use Rattle.policy.specs.Build.{emptyRow}
@@ -16,7 +16,7 @@ use Rattle.number.specs.Run.{go}
 use Rattle.number.proofs.Runs.{on-num}
 use Rattle.sections.specs.Numbers.{countAt}
 use Rattle.sections.proofs.Bounds.{Within, within-go, within-num, within-step, within-run, set-within, count-within, member-within}
-use Rattle.rows.specs.Rows.{row, rangeAt, conditionAt, rowAt, table, rowStep, tableAt, ranges, rangeStep, rangesAt}
+use Rattle.rows.specs.Rows.{row, rangeAt, conditionAt, tableRowAt, table, rowStep, tableAt, ranges, rangeStep, rangesAt}
 
 module _ (s : List ℕ) where
   module _ (roles admins : ℕ) where
@@ -34,7 +34,7 @@ module _ (s : List ℕ) where
     unfolding rangesAt
     ranges-within h =
         within-num _ _ (count-within s h _) (λ n next q k l.
-        within-run (rangeStep s roles admins) (length s) range-step n 0 next (ranges n (replicate 64 ranges-rows.noRow)) l)
+        within-run (rangeStep s roles admins) (length s) range-step n 0 next (ranges n (replicate 64 noRow)) l)
 
   condition-within : (roles : ℕ) (r : ModifyRow) (brackets : ℕ) {at : ℕ} → at ≤ length s → Within (length s) at (conditionAt s roles r brackets at)
   unfolding conditionAt
@@ -42,8 +42,8 @@ module _ (s : List ℕ) where
       within-num _ _ (set-within s h _) (λ needed mid q k l. within-num _ _ (set-within s l _) (λ barred next t m n. within-go (omega arith) n))
 
   module _ (assign : Bool) (roles admins : ℕ) where
-    row-within : {at : ℕ} → at ≤ length s → Within (length s) at (rowAt s assign roles admins at)
-    unfolding rowAt
+    row-within : {at : ℕ} → at ≤ length s → Within (length s) at (tableRowAt s assign roles admins at)
+    unfolding tableRowAt
     row-within h =
         within-step _ _ (range-within roles admins h) (λ fourth r q k l. within-num _ _ (count-within s l _) (λ brackets next t m n. by assign r brackets n))
       where
@@ -76,5 +76,5 @@ module _ (s : List ℕ) where
   ranges-some roles admins {at} {e} {m} h q =
       let c = on-num (countAt s 64 at) _ q in
       let k = count-within s h 64 .ends (c .0) (c .1) (c .2) in
-      let r = within-run (rangeStep s roles admins) (length s) (range-step roles admins) (c .0) 0 (c .1) (ranges (c .0) (replicate 64 ranges-rows.noRow)) (k .1) in
+      let r = within-run (rangeStep s roles admins) (length s) (range-step roles admins) (c .0) 0 (c .1) (ranges (c .0) (replicate 64 noRow)) (k .1) in
       omega (arith, k .0, r .ends e m (c .3))

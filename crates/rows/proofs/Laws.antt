@@ -6,7 +6,7 @@ use mathlib.Core.Bool.{Bool}
 use mathlib.Core.List.{List}
 use lib.ListN.{set, replicate}
 use Rattle.ranges.specs.declared.ModifyRow.{ModifyRow}
-use Rattle.ranges.specs.Rows as ranges-rows
+use Rattle.ranges.specs.Rows.{noRow}
 use Rattle.policy.specs.declared.Row.{Row}
 use Rattle.policy.specs.declared.Table.{Table}
 use Rattle.policy.specs.declared.Ranges.{Ranges}
@@ -15,7 +15,7 @@ use Rattle.number.specs.Run.{go, stop, run}
 use Rattle.number.specs.declared.Num.the-variants.{Value, Refused}
 use Rattle.sections.specs.Numbers.{countAt}
 use Rattle.sections.proofs.Answers.{Answers}
-use Rattle.rows.specs.Rows.{rangeAt, rangeRead, rowAt, rowRead, table, rowStep, tableAt, tableRead, ranges, rangeStep, rangesAt, rangesRead}
+use Rattle.rows.specs.Rows.{rangeAt, rangeRead, tableRowAt, rowRead, table, rowStep, tableAt, tableRead, ranges, rangeStep, rangesAt, rangesRead}
 
 pub range-answers : Answers rangeRead (λ r. r .how) (λ r. r .range)
 range-answers = record { how-go = λ e a. refl; how-stop = λ c p. refl; held-go = λ e a. refl }
@@ -32,11 +32,11 @@ ranges-answers = record { how-go = λ e a. refl; how-stop = λ c p. refl; held-g
 -- ---- a table of rows
 
 module _ (s : List ℕ) (assign : Bool) (roles admins i at : ℕ) (t : Table) where
-  pub row-not : {c p : ℕ} → rowAt s assign roles admins at ≡ stop c p → rowStep s assign roles admins i at t ≡ stop c p
+  pub row-not : {c p : ℕ} → tableRowAt s assign roles admins at ≡ stop c p → rowStep s assign roles admins i at t ≡ stop c p
   unfolding rowStep
   row-not e = rw e
 
-  pub row-in : {next : ℕ} {r : Row} → rowAt s assign roles admins at ≡ go next r
+  pub row-in : {next : ℕ} {r : Row} → tableRowAt s assign roles admins at ≡ go next r
       → rowStep s assign roles admins i at t ≡ go next (table (t .count) (set (t .rows) i r))
   unfolding rowStep
   row-in e = rw e
@@ -69,6 +69,6 @@ module _ (s : List ℕ) (roles admins at : ℕ) where
   ranges-none e = rw e
 
   pub ranges-run : {n next : ℕ} → countAt s 64 at ≡ Value n next
-      → rangesAt s roles admins at ≡ run (rangeStep s roles admins) n 0 next (ranges n (replicate 64 ranges-rows.noRow))
+      → rangesAt s roles admins at ≡ run (rangeStep s roles admins) n 0 next (ranges n (replicate 64 noRow))
   unfolding rangesAt
   ranges-run e = rw e

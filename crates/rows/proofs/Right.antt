@@ -13,7 +13,7 @@ use Rattle.sets.specs.Sets.{has}
 use Rattle.sets.proofs.Tests.{by-test, clash}
 use Rattle.sets.proofs.Builders.{subset-empty}
 use Rattle.ranges.specs.declared.ModifyRow.{ModifyRow}
-use Rattle.ranges.specs.Rows as ranges-rows
+use Rattle.ranges.specs.Rows.{noRow}
 use Rattle.policy.specs.declared.Row.{Row}
 use Rattle.policy.specs.declared.Table.{Table}
 use Rattle.policy.specs.declared.Ranges.{Ranges}
@@ -25,7 +25,7 @@ use Rattle.sections.specs.Numbers.{setAt, countAt, memberAt}
 use Rattle.sections.proofs.Laws.{count-most, member-of}
 use Rattle.sections.proofs.Filled.{run-all, Filled, filled-none, filled-set}
 use Rattle.sections.proofs.Right.{set-in}
-use Rattle.rows.specs.Rows.{range, row, rangeAt, conditionAt, rowAt, table, rowStep, tableAt, ranges, rangeStep, rangesAt}
+use Rattle.rows.specs.Rows.{range, row, rangeAt, conditionAt, tableRowAt, table, rowStep, tableAt, ranges, rangeStep, rangesAt}
 
 -- ---- a range: what it names is in use
 record RangeRight (roles admins : ℕ) (r : ModifyRow) : Type 0 where
@@ -45,7 +45,7 @@ module _ (s : List ℕ) (roles admins : ℕ) where
 
   record Ranged (n i : ℕ) (m : Ranges) : Type 0 where
     count-is : m .count ≡ n
-    rows-are : Filled ranges-rows.noRow (λ j r. RangeRight roles admins r) 64 i (m .rows)
+    rows-are : Filled noRow (λ j r. RangeRight roles admins r) 64 i (m .rows)
 
   range-keeps : (n : ℕ) → n ≤ 64 → (i at : ℕ) (m : Ranges) (next : ℕ) (b : Ranges) → i < n → Ranged n i m → rangeStep s roles admins i at m ≡ go next b → Ranged n (i + 1) b
   unfolding rangeStep
@@ -66,7 +66,7 @@ ranges-right s roles admins at {e} {m} q =
     let most = count-most s 64 at (c .2) in
     let k =
     run-all (rangeStep s roles admins) (Ranged s roles admins (c .0)) (c .0) (range-keeps s roles admins (c .0) most) (c .1)
-    (ranges (c .0) (replicate 64 ranges-rows.noRow)) e m (record { count-is = refl; rows-are = filled-none }) (c .3)
+    (ranges (c .0) (replicate 64 noRow)) e m (record { count-is = refl; rows-are = filled-none }) (c .3)
     in
     record {
       size = omega (arith, k .count-is);
@@ -89,8 +89,8 @@ record RowRight (assign : Bool) (roles admins : ℕ) (r : Row) : Type 0 where
   plain : assign ≡ false → Plain r
 
 module _ (s : List ℕ) (assign : Bool) (roles admins : ℕ) where
-  row-right : (at : ℕ) {e : ℕ} {r : Row} → rowAt s assign roles admins at ≡ go e r → RowRight assign roles admins r
-  unfolding rowAt conditionAt
+  row-right : (at : ℕ) {e : ℕ} {r : Row} → tableRowAt s assign roles admins at ≡ go e r → RowRight assign roles admins r
+  unfolding tableRowAt conditionAt
   row-right at {e} {r} q =
       let f = on-step (rangeAt s roles admins at) _ q in
       let b = on-num (countAt s 3 (f .0)) _ (f .3) in
@@ -142,7 +142,7 @@ module _ (s : List ℕ) (assign : Bool) (roles admins : ℕ) where
   row-keeps : (n : ℕ) → n ≤ 64 → (i at : ℕ) (t : Table) (next : ℕ) (b : Table) → i < n → Tabled n i t → rowStep s assign roles admins i at t ≡ go next b → Tabled n (i + 1) b
   unfolding rowStep
   row-keeps n most i at t next b h k q =
-      let a = on-step (rowAt s assign roles admins at) _ q in
+      let a = on-step (tableRowAt s assign roles admins at) _ q in
       let z : table (t .count) (set (t .rows) i (a .1)) ≡ b = cc (a .3) in
       rw (← z) (record { count-is = k .count-is; rows-are = filled-set (k .rows-are) (omega arith) (row-right at (a .2)) })
 

@@ -7,7 +7,7 @@ use mathlib.Core.List.{List}
 use lib.ListN.{set, replicate}
 use Rattle.sets.specs.Tests.{pick}
 use Rattle.ranges.specs.declared.ModifyRow.{ModifyRow}
-use Rattle.ranges.specs.Rows as ranges-rows
+use Rattle.ranges.specs.Rows.{noRow}
 use Rattle.policy.specs.declared.Row.{Row}
 use Rattle.policy.specs.declared.Table.{Table}
 use Rattle.policy.specs.declared.Ranges.{Ranges}
@@ -43,8 +43,8 @@ conditionAt s roles r brackets at =
 
 -- "then, except in can-modify, brackets (1 = low included, 2 = high included, added)".
 -- assign says whether the row is of one of the two can-assign tables; a can-revoke row needs and bars nothing.
-unfoldable pub rowAt : List ℕ → Bool → ℕ → ℕ → ℕ → Step Row
-rowAt s assign roles admins at =
+unfoldable pub tableRowAt : List ℕ → Bool → ℕ → ℕ → ℕ → Step Row
+tableRowAt s assign roles admins at =
     onStep (rangeAt s roles admins at) (λ fourth r. onNum (countAt s 3 fourth) (λ brackets next.
     pick assign (conditionAt s roles r brackets next) (go next (row r brackets 0 0))))
 
@@ -55,7 +55,7 @@ table count rows = record { count = count; rows = rows }
 
 unfoldable pub rowStep : List ℕ → Bool → ℕ → ℕ → ℕ → ℕ → Table → Step Table
 rowStep s assign roles admins i at t =
-    onStep (rowAt s assign roles admins at) (λ next r. go next (table (t .count) (set (t .rows) i r)))
+    onStep (tableRowAt s assign roles admins at) (λ next r. go next (table (t .count) (set (t .rows) i r)))
 
 unfoldable pub tableAt : List ℕ → Bool → ℕ → ℕ → ℕ → Step Table
 tableAt s assign roles admins at =
@@ -70,7 +70,7 @@ rangeStep s roles admins i at m =
 
 unfoldable pub rangesAt : List ℕ → ℕ → ℕ → ℕ → Step Ranges
 rangesAt s roles admins at =
-    onNum (countAt s 64 at) (λ n next. run (rangeStep s roles admins) n 0 next (ranges n (replicate 64 ranges-rows.noRow)))
+    onNum (countAt s 64 at) (λ n next. run (rangeStep s roles admins) n 0 next (ranges n (replicate 64 noRow)))
 
 -- ---- how each is answered: where it is refused, with nothing in it
 
@@ -81,12 +81,12 @@ abbrev pub rangeRead : Step ModifyRow → RangeRead
 rangeRead (go e r) = record { how = At e; range = r }
 rangeRead (stop c p) = noRange (Stopped c p)
 
-abbrev pub noRow : Ended → RowRead
-noRow h = record { how = h; row = emptyRow }
+abbrev pub noTableRow : Ended → RowRead
+noTableRow h = record { how = h; row = emptyRow }
 
 abbrev pub rowRead : Step Row → RowRead
 rowRead (go e r) = record { how = At e; row = r }
-rowRead (stop c p) = noRow (Stopped c p)
+rowRead (stop c p) = noTableRow (Stopped c p)
 
 abbrev pub noTable : Ended → TableRead
 noTable h = record { how = h; table = emptyTable }

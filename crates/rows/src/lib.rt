@@ -1,7 +1,7 @@
 // The tables of the policy file: of each a count, and its rows.
 ghost use mathlib.Core.Path.{_≡_};
 ghost use Prim.Native.Nat.{_<_};
-ghost use Rattle.rows.specs.Rows.{noRange, rangeAt, rangeRead, row, noRow, rowAt, rowRead, noTable, tableAt, tableRead, noRanges, rangesAt, rangesRead};
+ghost use Rattle.rows.specs.Rows.{noRange, rangeAt, rangeRead, row, noTableRow, tableRowAt, rowRead, noTable, tableAt, tableRead, noRanges, rangesAt, rangesRead};
 use number::Num;
 use policy::Ranges;
 use policy::Row;
@@ -78,7 +78,7 @@ fn read_range(s: &[u8], at: usize, roles: u64, admins: u64) -> RangeRead
 }
 
 fn no_row(how: Ended) -> RowRead
-    ensures { λ r. ⌜ r ≡ noRow how ⌝ }
+    ensures { λ r. ⌜ r ≡ noTableRow how ⌝ }
 {
     let row = empty_row();
     RowRead { how, row }
@@ -104,7 +104,7 @@ fn make_row(range: ModifyRow, brackets: u64, needed: u64, barred: u64) -> Row
 
 // A row with brackets; assign says whether it is of a can-assign table, and has a needed and a barred set.
 fn read_row(s: &[u8], at: usize, roles: u64, admins: u64, assign: bool) -> RowRead
-    ensures { λ r. ⌜ r ≡ rowRead (rowAt (now (s .entry)) assign roles admins at) ⌝ }
+    ensures { λ r. ⌜ r ≡ rowRead (tableRowAt (now (s .entry)) assign roles admins at) ⌝ }
 {
     let f = read_range(s, at, roles, admins);
     let hf = f.how;

@@ -25,7 +25,8 @@ use Rattle.policy.specs.Good.{Good, GoodSets, GoodTable}
 use Rattle.policy.proofs.Outcomes.{answer-policy}
 use Rattle.hierarchy.specs.Rules.{site, rowNames, tableNames, rangesName, named, someIn, createRole, deleteRole, insertEdge, deleteEdge}
 use Rattle.hierarchy.proofs.Accepted.{delete-ok}
-use Rattle.safety.proofs.Hierarchy.{Kept, good-site, create-kept, remove-kept, insert-kept, cut-kept}
+use Rattle.safety.specs.Dominance.{Kept}
+use Rattle.safety.proofs.Hierarchy.{good-site, create-kept, remove-kept, insert-kept, cut-kept}
 
 -- no end, needed or barred role of a row is gone
 record RowFree (gone : ℕ → Bool) (row : Row) : Type 0 where

@@ -29,7 +29,7 @@ use Rattle.hierarchy.specs.declared.Site.{Site}
 use Rattle.hierarchy.specs.Rules.{site, over, edgeIn, rowAllows, mayModify, newRole, spoils, rangesName, createRules, insertRules, cutRules}
 use Rattle.hierarchy.proofs.Accepted.{create-ok, insert-ok, cut-ok, create-fits}
 use Rattle.hierarchy.proofs.Laws.{known-first, known-second}
-use Rattle.safety.specs.Dominance.{mayChange}
+use Rattle.safety.specs.Dominance.{mayChange, Kept}
 use Rattle.safety.proofs.Dominance as dominance
 use Rattle.safety.proofs.Removal.{remove-sound}
 
@@ -41,13 +41,6 @@ pub record GoodSite (s : Site) : Type 0 where
 pub good-site : (p : Policy) (o : ℕ) → Good p → GoodSite (site p o)
 unfolding site
 good-site p o g = record { order = g .roles; rows = g .sound }
-
--- what an accepted request leaves: r is the order after
-pub record Kept (s : Site) (r : Order) : Type 0 where
-  pub order : GoodOrder 64 r
-  pub rows : SoundRows (r .used) (senior (r .juniors)) (s .modify .count) (s .modify .rows)
-  pub dominance : (x y : ℕ) → has (s .roles .used) x ≡ true → has (s .roles .used) y ≡ true → has (r .used) x ≡ true → has (r .used) y ≡ true
-      → mayChange s x y ≡ false → senior (r .juniors) x y ≡ over s x y
 
 sound-of : (o : Order) → GoodOrder 64 o → Sound o
 sound-of o g = record { strict = g .strict; in-use = g .in-use; width = g .width }

@@ -61,11 +61,11 @@ module _ (f g : Relation) (a : ℕ) (e : (x y : ℕ) → g x y ≡ removed f a x
           }
 
   -- who is in the range of a row after was in it before, and the other way round but for a
-  record Kept (p q : ℕ → Bool) : Type 0 where
+  record SameBut (p q : ℕ → Bool) : Type 0 where
     member : (r : ℕ) → q r ≡ true → (p r ≡ true) × (eqb r a ≡ false)
     other : (r : ℕ) → eqb r a ≡ false → q r ≡ false → p r ≡ false
 
-  still : (p q p′ q′ : ℕ → Bool) → Kept p q → Kept p′ q′ → overlapInPart q q′ ≡ true → overlapInPart p p′ ≡ true
+  still : (p q p′ q′ : ℕ → Bool) → SameBut p q → SameBut p′ q′ → overlapInPart q q′ ≡ true → overlapInPart p p′ ≡ true
   unfolding overlapInPart
   still p q p′ q′ k k′ t =
       let x = any-at 64 _ (and-l _ _ t) in
@@ -74,14 +74,14 @@ module _ (f g : Relation) (a : ℕ) (e : (x y : ℕ) → g x y ≡ removed f a x
       and-i _ _ (any-of 64 _ (x .0) (x .1) (and-i _ _ (k .member _ (and-l _ _ (x .2)) .0) (k′ .member _ (and-r _ _ (x .2)) .0)))
       (and-i _ _ (any-of 64 _ (y .0) (y .1) (one p q p′ q′ k k′ (y .0) (y .2))) (any-of 64 _ (z .0) (z .1) (one p′ q′ p q k′ k (z .0) (z .2))))
     where
-      one : (p q p′ q′ : ℕ → Bool) → Kept p q → Kept p′ q′ → (r : ℕ) → (q r and neg (q′ r)) ≡ true → (p r and neg (p′ r)) ≡ true
+      one : (p q p′ q′ : ℕ → Bool) → SameBut p q → SameBut p′ q′ → (r : ℕ) → (q r and neg (q′ r)) ≡ true → (p r and neg (p′ r)) ≡ true
       one p q p′ q′ k k′ r s =
           let m = k .member r (and-l _ _ s) in
           and-i _ _ (m .0) (neg-i _ (k′ .other r (m .1) (neg-e _ (and-r _ _ s))))
 
   module _ (used after count : ℕ) (rows : List ModifyRow) (kept : (x : ℕ) → has after x ≡ true → (has used x ≡ true) × (eqb x a ≡ false))
       (ends : (i : ℕ) → i < count → (eqb (rowAt rows i .low .0) a ≡ false) × (eqb (rowAt rows i .high .0) a ≡ false)) where
-    row-kept : (i : ℕ) → i < count → Kept (within f (rowAt rows i)) (within g (rowAt rows i))
+    row-kept : (i : ℕ) → i < count → SameBut (within f (rowAt rows i)) (within g (rowAt rows i))
     unfolding within
     row-kept i l =
         record {

@@ -24,18 +24,18 @@ use Rattle.sections.specs.Sections.{juniorStep, juniorsAt, orderAt, peop
 -- ---- numbers and steps that keep within an input of len bytes
 
 -- a refusal's number is 20 to 27, and its place within the input
-pub record Refusal (len c p : ℕ) : Type 0 where
+pub record RefusedWithin (len c p : ℕ) : Type 0 where
   pub low : 20 ≤ c
   pub high : c ≤ 27
   pub place : p ≤ len
 
 pub record NumWithin (len at : ℕ) (n : Num) : Type 0 where
   pub ends : (x e : ℕ) → n ≡ Value x e → (at < e) × (e ≤ len)
-  pub refuses : (c p : ℕ) → n ≡ Refused c p → Refusal len c p
+  pub refuses : (c p : ℕ) → n ≡ Refused c p → RefusedWithin len c p
 
 pub record Within {A : Type 0} (len at : ℕ) (m : Step A) : Type 0 where
   pub ends : (e : ℕ) (a : A) → m ≡ go e a → (at ≤ e) × (e ≤ len)
-  pub refuses : (c p : ℕ) → m ≡ stop c p → Refusal len c p
+  pub refuses : (c p : ℕ) → m ≡ stop c p → RefusedWithin len c p
 
 module _ {A : Type 0} {len : ℕ} where
   pub within-go : {at e : ℕ} {a : A} → at ≤ e → e ≤ len → Within len at (go e a)
@@ -45,7 +45,7 @@ module _ {A : Type 0} {len : ℕ} where
         refuses = λ c p q. absurd (let z : _≡_ {A = ℕ} 0 1 = cc in omega arith);
       }
 
-  pub within-stop : {at c p : ℕ} → Refusal len c p → Within {A = A} len at (stop c p)
+  pub within-stop : {at c p : ℕ} → RefusedWithin len c p → Within {A = A} len at (stop c p)
   within-stop {at} {c} {p} r =
       record {
         ends = λ e a q. absurd (let z : _≡_ {A = ℕ} 0 1 = cc in omega arith);

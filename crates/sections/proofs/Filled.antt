@@ -13,9 +13,9 @@ use Rattle.number.specs.Run.{Step, go, run}
 use Rattle.number.proofs.Runs.{on-step}
 
 -- what each step keeps, the run keeps
-module _ {A : Type 0} (f : ℕ → ℕ → A → Step A) (Kept : ℕ → A → Type 0) (N : ℕ)
-    (keeps : (i at : ℕ) (a : A) (next : ℕ) (b : A) → i < N → Kept i a → f i at a ≡ go next b → Kept (i + 1) b) where
-  run-keeps : (n i at : ℕ) (a : A) (e : ℕ) (b : A) → i + n ≤ N → Kept i a → run f n i at a ≡ go e b → Kept (i + n) b
+module _ {A : Type 0} (f : ℕ → ℕ → A → Step A) (Holds : ℕ → A → Type 0) (N : ℕ)
+    (keeps : (i at : ℕ) (a : A) (next : ℕ) (b : A) → i < N → Holds i a → f i at a ≡ go next b → Holds (i + 1) b) where
+  run-keeps : (n i at : ℕ) (a : A) (e : ℕ) (b : A) → i + n ≤ N → Holds i a → run f n i at a ≡ go e b → Holds (i + n) b
   unfolding run
   run-keeps zero i at a e b h k q =
       let z : a ≡ b = cc in
@@ -27,7 +27,7 @@ module _ {A : Type 0} (f : ℕ → ℕ → A → Step A) (Kept : ℕ → A → T
       rw y (run-keeps n (i + 1) (s .0) (s .1) e b (omega arith) (keeps i at a (s .0) (s .1) (omega arith) k (s .2)) (s .3))
 
   -- all of it
-  pub run-all : (at : ℕ) (a : A) (e : ℕ) (b : A) → Kept 0 a → run f N 0 at a ≡ go e b → Kept N b
+  pub run-all : (at : ℕ) (a : A) (e : ℕ) (b : A) → Holds 0 a → run f N 0 at a ≡ go e b → Holds N b
   run-all at a e b k q = let y : 0 + N ≡ N = omega arith in rw y at (run-keeps N 0 at a e b (omega arith) k q)
 
 -- a list of size places, of which i are done, each right by P, and the others hold none

@@ -26,7 +26,7 @@ use Rattle.number.proofs.Numbers.{num-small}
 use Rattle.number.proofs.Tested.{tested-was}
 use Rattle.number.proofs.Runs.{on-num, on-step}
 use Rattle.sections.specs.Numbers.{setAt, countAt}
-use Rattle.sections.specs.Sections.{numbers, juniorStep, juniorsAt, orderAt, people, userStep, peopleAt, members, memberStep, membersAt}
+use Rattle.sections.specs.Sections.{allBelow, juniorStep, juniorsAt, orderAt, people, userStep, peopleAt, members, memberStep, membersAt}
 use Rattle.sections.proofs.Laws.{count-most}
 use Rattle.sections.proofs.Filled.{run-all, Filled, filled-none, filled-set, filled-skip}
 
@@ -128,8 +128,8 @@ pub record OrderRight (w : ℕ) (o : Order) : Type 0 where
   pub small : (a : ℕ) → getD (o .juniors) a 0 < 2 ^ 64
 
 -- a set of numbers below w is below 2 to the w
-below-width : (w x : ℕ) → w ≤ 64 → SetIn (numbers w) x → x < 2 ^ w
-unfolding numbers
+below-width : (w x : ℕ) → w ≤ 64 → SetIn (allBelow w) x → x < 2 ^ w
+unfolding allBelow
 below-width w x h k =
     let e : x ≡ setOf w (has x) =
     same-set 64 x (setOf w (has x)) (k .small) (omega (arith, setOf-lt w (has x), pow-le-pow-right {n = 2} (omega arith) {i = w} {j = 64} h))
@@ -171,10 +171,10 @@ junior-set {used} {l} k a =
     by-test (ltb a 64) (λ t. k .done a (ltb-true a 64 t))
     (λ t. rw (k .rest a (ltb-false a 64 t)) (record { set = record { inner = subset-empty 64 used; small = omega arith }; unused = λ e. refl }))
 
-pub order-right : (s : List ℕ) (w at : ℕ) {e : ℕ} {o : Order} → w ≤ 64 → orderAt s (numbers w) at ≡ go e o → OrderRight w o
+pub order-right : (s : List ℕ) (w at : ℕ) {e : ℕ} {o : Order} → w ≤ 64 → orderAt s (allBelow w) at ≡ go e o → OrderRight w o
 unfolding orderAt senior
 order-right s w at {e} {o} h q =
-    let u = on-num (setAt s (numbers w) at) _ q in
+    let u = on-num (setAt s (allBelow w) at) _ q in
     let j = on-step (juniorsAt s (u .0) (u .1)) _ (u .3) in
     let k = juniors-are s (u .0) (u .1) (j .2) in
     let z : _≡_ {A = Order} (record { used = u .0; juniors = j .1 }) o = cc (j .3) in
@@ -184,7 +184,7 @@ order-right s w at {e} {o} h q =
         above = λ a b t. by-test (has (u .0) a) (λ y. y) (λ n. clash (rw (junior-set k a .unused n) at t) (has-empty b));
         below = λ a b t. subset-at 64 _ (u .0) (junior-set k a .set .small) (junior-set k a .set .inner) b t;
       };
-      width = below-width w (u .0) h (set-in s (numbers w) at (u .2));
+      width = below-width w (u .0) h (set-in s (allBelow w) at (u .2));
       rows = k .long;
       small = λ a. junior-set k a .set .small;
     })

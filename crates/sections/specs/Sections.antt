@@ -21,8 +21,8 @@ use Rattle.sections.specs.Numbers.{setAt, countAt}
 -- ---- "set of roles; for each role in use, ascending, its set of strict juniors; the same two for administrative roles"
 
 -- "64 roles (0 to 63), 16 administrative roles (0 to 15)": the set of the w numbers there are
-unfoldable pub numbers : ℕ → ℕ
-numbers w = setOf w (λ n. true)
+unfoldable pub allBelow : ℕ → ℕ
+allBelow w = setOf w (λ n. true)
 
 -- number i, where it is in use: its strict juniors, inside what is in use
 unfoldable pub juniorStep : List ℕ → ℕ → ℕ → ℕ → List ℕ → Step (List ℕ)

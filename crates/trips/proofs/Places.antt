@@ -13,7 +13,7 @@ use Rattle.sets.specs.Tests.{_or_, pick}
 use Rattle.sets.specs.Sets.{has, subset}
 use Rattle.sets.proofs.Quantifiers.{least-le}
 use Rattle.ranges.specs.declared.ModifyRow.{ModifyRow}
-use Rattle.ranges.specs.Rows as ranges-rows
+use Rattle.ranges.specs.Rows.{noRow}
 use Rattle.policy.specs.declared.Members.{Members}
 use Rattle.policy.specs.declared.People.{People}
 use Rattle.policy.specs.declared.Table.{Table}
@@ -25,8 +25,8 @@ use Rattle.number.specs.declared.Num.{Num}
 use Rattle.number.specs.declared.Num.the-variants.{Value, Refused}
 use Rattle.number.proofs.Tested.{tested-was}
 use Rattle.sections.specs.Numbers.{setAt, countAt, memberAt}
-use Rattle.sections.specs.Sections.{numbers, juniorStep, juniorsAt, orderAt, people, userStep, peopleAt, members, memberStep, membersAt}
-use Rattle.rows.specs.Rows.{row, rangeAt, conditionAt, rowAt, table, rowStep, tableAt, ranges, rangeStep, rangesAt}
+use Rattle.sections.specs.Sections.{allBelow, juniorStep, juniorsAt, orderAt, people, userStep, peopleAt, members, memberStep, membersAt}
+use Rattle.rows.specs.Rows.{row, rangeAt, conditionAt, tableRowAt, table, rowStep, tableAt, ranges, rangeStep, rangesAt}
 use Rattle.faults.specs.Faults.{fault}
 use Rattle.reading.specs.declared.Front.{Front}
 use Rattle.reading.specs.declared.Rest.{Rest}
@@ -211,11 +211,11 @@ module _ (s : List ℕ) where
     ranges-until {at} {u} h =
         until-num _ _ (omega arith) (count-until s h _) (λ n next q k.
         until-more (omega (arith, count-most s 64 at q))
-        (until-run (rangeStep s roles admins) 30 range-step n 0 next (u + 10) (ranges n (replicate 64 ranges-rows.noRow)) k))
+        (until-run (rangeStep s roles admins) 30 range-step n 0 next (u + 10) (ranges n (replicate 64 noRow)) k))
 
     module _ (assign : Bool) where
-      row-until : {at u : ℕ} → at ≤ u → Until (u + 60) (rowAt s assign roles admins at)
-      unfolding rowAt conditionAt
+      row-until : {at u : ℕ} → at ≤ u → Until (u + 60) (tableRowAt s assign roles admins at)
+      unfolding tableRowAt conditionAt
       row-until {at} {u} h =
           until-step _ _ (omega arith) (range-until h) (λ fourth r k.
           until-num _ _ (omega arith) (count-until s k _) (λ brackets next q l. by assign r brackets l))
@@ -245,8 +245,8 @@ module _ (s : List ℕ) where
   unfolding frontAt oneAt
   front-until =
       until-num _ _ (omega arith) (tested-until s {u = 0} (omega arith) (λ x. eqb x 1)) (λ one a q k.
-      until-step _ _ (omega arith) (order-until (numbers 64) k) (λ b roles l.
-      until-step _ _ (omega arith) (order-until (numbers 16) l) (λ c admins m.
+      until-step _ _ (omega arith) (order-until (allBelow 64) k) (λ b roles l.
+      until-step _ _ (omega arith) (order-until (allBelow 16) l) (λ c admins m.
       until-step _ _ (omega arith) (people-until (roles .used) (admins .used) m) (λ d people n.
       until-step _ _ (omega arith) (members-until (roles .used) n) (λ e permissions o. until-go (omega arith))))))
 

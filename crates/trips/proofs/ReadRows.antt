@@ -11,7 +11,7 @@ use Rattle.sets.specs.Sets.{has, subset}
 use Rattle.sets.proofs.Tests.{by-test}
 use Rattle.sets.proofs.Digits.{has-below}
 use Rattle.ranges.specs.declared.ModifyRow.{ModifyRow}
-use Rattle.ranges.specs.Rows as ranges-rows
+use Rattle.ranges.specs.Rows.{noRow, rowAt}
 use Rattle.policy.specs.declared.Row.{Row}
 use Rattle.policy.specs.declared.Table.{Table}
 use Rattle.policy.specs.declared.Ranges.{Ranges}
@@ -20,7 +20,7 @@ use Rattle.policy.specs.Good.{GoodRow, GoodTable, GoodRanges, Unconditional}
 use Rattle.number.specs.Number.{numBytes}
 use Rattle.number.specs.Run.{go}
 use Rattle.number.proofs.Parts.{Stands, stands-first, stands-second}
-use Rattle.rows.specs.Rows.{row, rangeAt, conditionAt, rowAt, table, rowStep, tableAt, ranges, rangeStep, rangesAt}
+use Rattle.rows.specs.Rows.{row, rangeAt, conditionAt, tableRowAt, table, rowStep, tableAt, ranges, rangeStep, rangesAt}
 use Rattle.rows.proofs.Laws.{row-in, range-in}
 use Rattle.layout.specs.Layout.{endsBytes, conditionBytes, rowBytes, modifyBytes, rowsBytes, rangesBytes}
 use Rattle.layout.proofs.Lengths.{ends-of, row-of, condition-in, condition-out}
@@ -86,8 +86,8 @@ module _ (s : List ℕ) (roles admins : ℕ) (u : roles < 2 ^ 64) (v : admins < 
         let same : row (endsOf r) (r .brackets) 0 0 ≡ r = ap₂ (λ n b. row (endsOf r) (r .brackets) n b) (sym (plain t .0)) (sym (plain t .1)) in
         pick-second t _ _ ∙ rw (c, e, same))
 
-    pub row-read : (at : ℕ) → Stands s at (rowBytes assign r) → rowAt s assign roles admins at ≡ go (at + length (rowBytes assign r)) r
-    unfolding rowAt rowBytes
+    pub row-read : (at : ℕ) → Stands s at (rowBytes assign r) → tableRowAt s assign roles admins at ≡ go (at + length (rowBytes assign r)) r
+    unfolding tableRowAt rowBytes
     row-read at w =
         let a = endsBytes (r .admin) (r .low) (r .high) in
         let b = numBytes (r .brackets) in
@@ -125,23 +125,23 @@ module _ (s : List ℕ) (roles admins : ℕ) (u : roles < 2 ^ 64) (v : admins < 
   -- ---- the can-modify table
   module _ (m : Ranges) (size : m .count ≤ 64) (g : GoodRanges roles admins m) where
     ranges-state : ℕ → Ranges
-    ranges-state i = ranges (m .count) (upTo ranges-rows.noRow (m .rows) i)
+    ranges-state i = ranges (m .count) (upTo noRow (m .rows) i)
 
     range-bytes : ℕ → List ℕ
-    range-bytes i = modifyBytes (ranges-rows.rowAt (m .rows) i)
+    range-bytes i = modifyBytes (rowAt (m .rows) i)
 
     range-reads : (i at : ℕ) → i < m .count → Stands s at (range-bytes i)
         → rangeStep s roles admins i at (ranges-state i) ≡ go (at + length (range-bytes i)) (ranges-state (i + 1))
     unfolding ranges-state range-bytes modifyBytes
     range-reads i at h w =
-        range-in s roles admins i at (ranges-state i) (ends-read at (ranges-rows.rowAt (m .rows) i) (g .admin i h) (g .low i h) (g .high i h) w)
-        ∙ rw (up-set ranges-rows.noRow (m .rows) i (omega (arith, g .long)))
+        range-in s roles admins i at (ranges-state i) (ends-read at (rowAt (m .rows) i) (g .admin i h) (g .low i h) (g .high i h) w)
+        ∙ rw (up-set noRow (m .rows) i (omega (arith, g .long)))
 
     pub ranges-read : (at : ℕ) → Stands s at (rangesBytes m) → rangesAt s roles admins at ≡ go (at + length (rangesBytes m)) m
     unfolding rangesAt rangesBytes ranges-state range-bytes
     ranges-read at w =
-        let e = up-all ranges-rows.noRow (m .rows) (m .count) (omega (arith, g .long)) (g .rest) in
-        let b = up-none ranges-rows.noRow (m .rows) in
+        let e = up-all noRow (m .rows) (m .count) (omega (arith, g .long)) (g .rest) in
+        let b = up-none noRow (m .rows) in
         let long = g .long in
         counted-read (rangeStep s roles admins) range-bytes ranges-state s (m .count) range-reads 64 (λ n. ranges n _) at size (omega arith)
         (rw (b, long)) w ∙ rw e

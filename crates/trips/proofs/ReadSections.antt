@@ -26,7 +26,7 @@ use Rattle.number.specs.declared.Num.the-variants.{Value}
 use Rattle.number.proofs.Parts.{Stands, stands-first, stands-second}
 use Rattle.number.proofs.Tested.{tested-written}
 use Rattle.sections.specs.Numbers.{setAt, countAt, memberAt}
-use Rattle.sections.specs.Sections.{numbers, juniorStep, juniorsAt, orderAt, people, userStep, peopleAt, members, memberStep, membersAt}
+use Rattle.sections.specs.Sections.{allBelow, juniorStep, juniorsAt, orderAt, people, userStep, peopleAt, members, memberStep, membersAt}
 use Rattle.sections.proofs.Laws.{junior-in, junior-skip}
 use Rattle.layout.specs.Layout.{juniorsBytes, orderBytes, userBytes, usersBytes, permissionsBytes}
 use Rattle.layout.proofs.Lengths.{juniors-in, juniors-out}
@@ -127,16 +127,16 @@ module _ (s : List ℕ) (w : ℕ) (o : Order) (g : GoodOrder w o) (wide : w ≤ 
       x = getD (o .juniors) i 0
 
   -- what is in use is one of the w numbers
-  numbered : subset 64 (o .used) (numbers w) ≡ true
-  unfolding numbers
+  numbered : subset 64 (o .used) (allBelow w) ≡ true
+  unfolding allBelow
   numbered = subset-of 64 (o .used) (setOf w (λ n. true)) (λ n t. has-setOf w (λ n. true) n (has-below w (o .used) n (g .width) t))
 
-  pub order-read : (at : ℕ) → Stands s at (orderBytes o) → orderAt s (numbers w) at ≡ go (at + length (orderBytes o)) o
+  pub order-read : (at : ℕ) → Stands s at (orderBytes o) → orderAt s (allBelow w) at ≡ go (at + length (orderBytes o)) o
   unfolding orderAt juniorsAt orderBytes junior-bytes
   order-read at v =
       let a = numBytes (o .used) in
       let r = each junior-bytes 64 0 in
-      let u = set-read s (o .used) (lt-of-lt-of-le (g .width) (pow-mono wide)) (stands-first a r v) (numbers w) numbered in
+      let u = set-read s (o .used) (lt-of-lt-of-le (g .width) (pow-mono wide)) (stands-first a r v) (allBelow w) numbered in
       let j = run-states (juniorStep s (o .used)) junior-bytes (upTo 0 (o .juniors)) s 64 junior-reads 64 0 (at + length a) (omega arith) (stands-second a r v) in
       let b = up-none 0 (o .juniors) in
       let long = g .rows in

@@ -14,7 +14,7 @@ use Rattle.number.specs.Number.{numAt, numBytes, part}
 use Rattle.number.specs.Run.{Step, go, stop}
 use Rattle.number.specs.declared.Num.the-variants.{Value}
 use Rattle.number.proofs.Tested.{tested-was}
-use Rattle.sections.specs.Sections.{numbers}
+use Rattle.sections.specs.Sections.{allBelow}
 use Rattle.reading.specs.declared.How.the-variants.{Accepted}
 use Rattle.reading.specs.declared.Front.{Front}
 use Rattle.reading.specs.declared.Rest.{Rest}
@@ -40,8 +40,8 @@ module _ (s : List ℕ) (small : (k : ℕ) → getD s k 0 < 256) where
   front-exact : {e : ℕ} {f : Front} → FrontSteps s e f → Exact s 0 e (sectionsBytes (f .orders .roles) (f .orders .admins) (f .people) (f .permissions))
   unfolding sectionsBytes
   front-exact k =
-      exact-next (exact-next (exact-next (exact-next (one-exact (k .one .1)) (order-exact s small (numbers 64) (k .first) (k .roles)))
-      (order-exact s small (numbers 16) (k .second) (k .admins))) (users-exact s small _ _ (k .third) (k .people))) (permissions-exact s small _ (k .fourth) (k .permissions))
+      exact-next (exact-next (exact-next (exact-next (one-exact (k .one .1)) (order-exact s small (allBelow 64) (k .first) (k .roles)))
+      (order-exact s small (allBelow 16) (k .second) (k .admins))) (users-exact s small _ _ (k .third) (k .people))) (permissions-exact s small _ (k .fourth) (k .permissions))
 
   -- ---- the tables
   module _ {roles admins a end : ℕ} {r : Rest} (k : RestSteps s roles admins a end r) where

@@ -9,7 +9,7 @@ use lib.ListN.{length, getD, set, replicate, length-set, length-replicate}
 use lib.Seq.{getD-set-same, getD-set-other}
 use Rattle.sets.specs.Tests.{pick}
 use Rattle.ranges.specs.declared.ModifyRow.{ModifyRow}
-use Rattle.ranges.specs.Rows as ranges-rows
+use Rattle.ranges.specs.Rows.{noRow, rowAt}
 use Rattle.policy.specs.declared.Row.{Row}
 use Rattle.policy.specs.declared.Table.{Table}
 use Rattle.policy.specs.declared.Ranges.{Ranges}
@@ -20,7 +20,7 @@ use Rattle.number.specs.declared.Num.the-variants.{Value}
 use Rattle.number.proofs.Runs.{on-num, on-step}
 use Rattle.number.proofs.RunTrip.{Stepped}
 use Rattle.sections.specs.Numbers.{setAt, countAt, memberAt}
-use Rattle.rows.specs.Rows.{range, row, rangeAt, conditionAt, rowAt, table, rowStep, tableAt, ranges, rangeStep, rangesAt}
+use Rattle.rows.specs.Rows.{range, row, rangeAt, conditionAt, tableRowAt, table, rowStep, tableAt, ranges, rangeStep, rangesAt}
 use Rattle.layout.specs.Layout.{endsBytes, rowBytes, modifyBytes, rowsBytes, rangesBytes}
 use Rattle.layout.proofs.Lengths.{condition-in, condition-out}
 use Rattle.trips.proofs.Exact.{Exact, exact-none, exact-next, set-exact, count-exact, member-exact, counted-exact}
@@ -42,8 +42,8 @@ module _ (s : List ℕ) (small : (k : ℕ) → getD s k 0 < 256) (roles admins :
           let y : past ≡ e = cc in
           rw (← z, ← y) (exact-next (exact-next (member-exact s small admins va) (member-exact s small roles vl)) (member-exact s small roles vh))
 
-  row-exact : (assign : Bool) (at : ℕ) {e : ℕ} {r : Row} → rowAt s assign roles admins at ≡ go e r → Exact s at e (rowBytes assign r)
-  unfolding rowAt conditionAt rowBytes
+  row-exact : (assign : Bool) (at : ℕ) {e : ℕ} {r : Row} → tableRowAt s assign roles admins at ≡ go e r → Exact s at e (rowBytes assign r)
+  unfolding tableRowAt conditionAt rowBytes
   row-exact assign at {e} {r} q =
       let f = on-step (rangeAt s roles admins at) _ q in
       let b = on-num (countAt s 3 (f .0)) _ (f .3) in
@@ -80,9 +80,9 @@ module _ (s : List ℕ) (small : (k : ℕ) → getD s k 0 < 256) (roles admins :
   row-step : (assign : Bool) (n : ℕ) → n ≤ 64 → (i at : ℕ) (t : Table) (next : ℕ) (b : Table) → i < n → at ≤ length s → TableOk n t
       → rowStep s assign roles admins i at t ≡ go next b → Stepped (TableOk n) (row-bytes assign) s i at t next b
   unfolding rowStep row-bytes
-  row-step assign n most i at t next b h l k q = let a = on-step (rowAt s assign roles admins at) _ q in done (a .0) (a .1) (a .2) (a .3)
+  row-step assign n most i at t next b h l k q = let a = on-step (tableRowAt s assign roles admins at) _ q in done (a .0) (a .1) (a .2) (a .3)
     where
-      done : (past : ℕ) (r : Row) → rowAt s assign roles admins at ≡ go past r → go past (table (t .count) (set (t .rows) i r)) ≡ go next b
+      done : (past : ℕ) (r : Row) → tableRowAt s assign roles admins at ≡ go past r → go past (table (t .count) (set (t .rows) i r)) ≡ go next b
           → Stepped (TableOk n) (row-bytes assign) s i at t next b
       done past r v u =
           let a = row-exact assign at v in
@@ -109,7 +109,7 @@ module _ (s : List ℕ) (small : (k : ℕ) → getD s k 0 < 256) (roles admins :
     long : length (m .rows) ≡ 64
 
   range-bytes : Ranges → ℕ → List ℕ
-  range-bytes m i = modifyBytes (ranges-rows.rowAt (m .rows) i)
+  range-bytes m i = modifyBytes (rowAt (m .rows) i)
 
   range-step : (n : ℕ) → n ≤ 64 → (i at : ℕ) (m : Ranges) (next : ℕ) (b : Ranges) → i < n → at ≤ length s → RangesOk n m
       → rangeStep s roles admins i at m ≡ go next b → Stepped (RangesOk n) range-bytes s i at m next b
@@ -127,12 +127,12 @@ module _ (s : List ℕ) (small : (k : ℕ) → getD s k 0 < 256) (roles admins :
             ok = record { count-is = k .count-is; long = length-set (m .rows) i r ∙ k .long };
             onward = a .onward;
             within = a .within;
-            bytes = ap modifyBytes (getD-set-same (m .rows) i r ranges-rows.noRow (omega (arith, k .long))) ∙ a .bytes;
-            stays = λ j d. ap modifyBytes (getD-set-other (m .rows) i j r ranges-rows.noRow (omega arith));
+            bytes = ap modifyBytes (getD-set-same (m .rows) i r noRow (omega (arith, k .long))) ∙ a .bytes;
+            stays = λ j d. ap modifyBytes (getD-set-other (m .rows) i j r noRow (omega arith));
           })
 
   pub ranges-exact : (at : ℕ) {e : ℕ} {m : Ranges} → rangesAt s roles admins at ≡ go e m → Exact s at e (rangesBytes m)
   unfolding rangesAt rangesBytes range-bytes
   ranges-exact at q =
-      counted-exact s small (rangeStep s roles admins) RangesOk range-bytes (λ m. m .count) 64 (λ n. ranges n (replicate 64 ranges-rows.noRow))
-      (λ n. record { count-is = refl; long = length-replicate 64 ranges-rows.noRow }) (λ n m k. k .count-is) range-step at q
+      counted-exact s small (rangeStep s roles admins) RangesOk range-bytes (λ m. m .count) 64 (λ n. ranges n (replicate 64 noRow))
+      (λ n. record { count-is = refl; long = length-replicate 64 noRow }) (λ n m k. k .count-is) range-step at q

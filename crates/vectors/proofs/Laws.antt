@@ -30,7 +30,7 @@ use Rattle.writing.specs.Writing.{Output}
 use Rattle.writing.proofs.Outputs.{short-answer, long-answer, long-bytes, same-long}
 use Rattle.listing.specs.declared.Listed.{Listed}
 use Rattle.listing.specs.declared.Listed.the-variants.{Unknown, Short, Entries}
-use Rattle.listing.specs.Listing.{entryCount, listingBytes, listed, filled, ListingOf}
+use Rattle.listing.specs.Listing.{entryCount, entriesFor, listed, filled, ListingOf}
 use Rattle.listing.proofs.Promised.{bytes-long}
 use Rattle.vectors.specs.Agree.{Says, Refuses, FileIs, Decides, RequestIs, ListingIs}
 
@@ -87,20 +87,20 @@ module _ (s : List ℕ) (q : Request) (answer : ℕ) (after : List ℕ) {l : Loa
 
 -- ---- a listing: what it leaves at the start of the buffer
 pub entries-bytes : (p : Policy) (o : ℕ) (before : List ℕ) {r : Listed} {a : List ℕ} {n : ℕ} → ListingOf p o before r a → r ≡ Entries n
-    → take (3 * n) a ≡ listingBytes p o
+    → take (3 * n) a ≡ entriesFor p o
 unfolding listed filled
 entries-bytes p o before {r} {a} {n} w e =
     by (leb (p .people .users .count) o) (ltb (length before) (3 * entryCount p o)) refl (sym (w .is) ∙ e) (w .bytes)
   where
     by : (x y : Bool) → ltb (length before) (3 * entryCount p o) ≡ y → pick x Unknown (pick y Short (Entries (entryCount p o))) ≡ Entries n
-        → a ≡ pick x before (pick y before (sets before 0 (listingBytes p o))) → take (3 * n) a ≡ listingBytes p o
+        → a ≡ pick x before (pick y before (sets before 0 (entriesFor p o))) → take (3 * n) a ≡ entriesFor p o
     by true y q f b = absurd (let z : _≡_ {A = ℕ} 0 1 = cc in omega arith)
     by false true q f b = absurd (let z : _≡_ {A = ℕ} 0 1 = cc in omega arith)
     by false false q f b =
         let k : entryCount p o ≡ n = cc in
-        let g : length (listingBytes p o) ≡ 3 * n = omega (arith, bytes-long p o) in
-        rw (b, sets-eq (listingBytes p o) before 0 (omega (arith, ltb-false (length before) (3 * entryCount p o) q)))
-        (take-at (listingBytes p o) _ (3 * n) g)
+        let g : length (entriesFor p o) ≡ 3 * n = omega (arith, bytes-long p o) in
+        rw (b, sets-eq (entriesFor p o) before 0 (omega (arith, ltb-false (length before) (3 * entryCount p o) q)))
+        (take-at (entriesFor p o) _ (3 * n) g)
 
 module _ (s : List ℕ) (o answer : ℕ) (entries : List ℕ) {l : Loaded} (e : l ≡ readPolicy s) where
   pub listing-refused : Refuses answer (l .how) → ListingIs s o answer entries (readPolicy s .how)

@@ -12,7 +12,7 @@ use Rattle.reading.specs.declared.How as how
 use Rattle.reading.specs.File.{readPolicy}
 use Rattle.layout.specs.Layout.{policyBytes}
 use Rattle.listing.specs.declared.Listed as found
-use Rattle.listing.specs.Listing.{listed, listingBytes}
+use Rattle.listing.specs.Listing.{listed, entriesFor}
 use Rattle.parts.specs.declared.Part as place
 use Rattle.parts.specs.Parts.{partBytes}
 
@@ -47,7 +47,7 @@ RequestIs s q answer after (how.the-variants.Refused c p) = Says answer c 0 p 0
 abbrev pub Lists : Policy → ℕ → ℕ → List ℕ → found.Listed → Type 0
 Lists p o answer entries found.the-variants.Unknown = Says answer 2 0 0 0
 Lists p o answer entries found.the-variants.Short = ⊥
-Lists p o answer entries (found.the-variants.Entries n) = Says answer 0 0 0 n × (listingBytes p o ≡ entries)
+Lists p o answer entries (found.the-variants.Entries n) = Says answer 0 0 0 n × (entriesFor p o ≡ entries)
 
 abbrev pub ListingIs : List ℕ → ℕ → ℕ → List ℕ → how.How → Type 0
 ListingIs s o answer entries how.the-variants.Accepted = Lists (readPolicy s .policy) o answer entries (listed (readPolicy s .policy) o 37056)

@@ -1,7 +1,7 @@
 use borrow.Author.Needs.{needs}
 use native.Mathlib.Omega.{arith}
 use Rattle.sets.proofs.Quantifiers.{count-le}
-use Rattle.listing.specs.Listing.{places, inRows}
+use Rattle.listing.specs.Listing.{placeCount, inRows}
 use Rattle.listing.proofs.Laws.{list-unknown, list-short, list-room, list-entries}
 use Rattle.listing.proofs.list.Statement.{statement}
 use Rattle.listing.proofs.list.Tie as tie
@@ -16,7 +16,7 @@ total-requires : tie.Need-total-requires
 total-requires c κs = search needs
 
 mul-if2 : tie.Need-mul-if2
-mul-if2 c = omega (arith, c .total .ensures, count-le places (inRows (c .before .gathered .result)))
+mul-if2 c = omega (arith, c .total .ensures, count-le placeCount (inRows (c .before .gathered .result)))
 
 returns-2 : tie.Need-returns-2
 returns-2 c = list-short _ _ _ (c .before .before .before .if1 .left) (c .before .before .gathered .ensures) (c .before .total .ensures) (c .if2 .taken)

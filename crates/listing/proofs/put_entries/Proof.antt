@@ -2,7 +2,7 @@ use mathlib.Core.Path.{sym, _∙_}
 use mathlib.Core.Logic.{⊎-elim}
 use Prim.Native.Nat.{_-_}
 use native.Mathlib.Omega.{arith}
-use Rattle.listing.specs.Listing.{inRows, places, entriesOf}
+use Rattle.listing.specs.Listing.{inRows, placeCount, entriesOf}
 use Rattle.number.proofs.Puts.{Putting, put-none, put-over}
 use Rattle.listing.proofs.Laws.{wanted, put-fits, put-one, put-skip}
 use borrow.Author.Needs.{needs}
@@ -10,10 +10,10 @@ use Rattle.listing.proofs.put_entries.Statement.{statement}
 use Rattle.listing.proofs.put_entries.Tie as tie
 
 abbrev Inv-loop : tie.InvT-loop
-Inv-loop out₀ rows at₀ i₀ out at i = Putting (wanted rows) places out₀ 0 i out at
+Inv-loop out₀ rows at₀ i₀ out at i = Putting (wanted rows) placeCount out₀ 0 i out at
 
 abbrev μ-loop : tie.MeasureT-loop
-μ-loop out₀ rows at₀ i₀ out at i = places - i
+μ-loop out₀ rows at₀ i₀ out at i = placeCount - i
 
 loop-holds : tie.Need-loop-holds Inv-loop μ-loop
 loop-holds c = put-none

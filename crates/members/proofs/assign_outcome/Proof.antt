@@ -1,6 +1,4 @@
-use mathlib.Core.Path.{sym, _∙_}
-use Rattle.policy.proofs.Outcomes.{first-here, first-next, first-none}
-use Rattle.members.proofs.Laws.{turned}
+use Rattle.policy.proofs.Outcomes.{first-that-holds}
 use Rattle.members.specs.Rules.{assignRules}
 use borrow.Author.Needs.{needs}
 use Rattle.members.proofs.assign_outcome.Statement.{statement}
@@ -11,32 +9,32 @@ is-unknown-requires c κs = search needs
 
 returns : tie.Need-returns
 unfolding assignRules
-returns c = first-here _ _ _ (sym (c .before .is-unknown .ensures) ∙ c .if1 .taken)
+returns c = search first-that-holds depth 12
 
 is-covered-requires : tie.Need-is-covered-requires
 is-covered-requires c κs = search needs
 
 returns-2 : tie.Need-returns-2
 unfolding assignRules
-returns-2 c = first-next _ _ _ (sym (c .before .before .before .is-unknown .ensures) ∙ c .before .before .if1 .left) (first-here _ _ _ (turned _ _ (c .before .is-covered .ensures) ∙ c .if2 .taken))
+returns-2 c = search first-that-holds depth 12
 
 is-granted-requires : tie.Need-is-granted-requires
 is-granted-requires c κs = search needs
 
 returns-3 : tie.Need-returns-3
 unfolding assignRules
-returns-3 c = first-next _ _ _ (sym (c .before .before .before .before .before .is-unknown .ensures) ∙ c .before .before .before .before .if1 .left) (first-next _ _ _ (turned _ _ (c .before .before .before .is-covered .ensures) ∙ c .before .before .if2 .left) (first-here _ _ _ (turned _ _ (c .before .is-granted .ensures) ∙ c .if3 .taken)))
+returns-3 c = search first-that-holds depth 12
 
 contains-requires : tie.Need-contains-requires
 contains-requires c κs = search needs
 
 returns-4 : tie.Need-returns-4
 unfolding assignRules
-returns-4 c = first-next _ _ _ (sym (c .before .before .before .before .before .before .before .is-unknown .ensures) ∙ c .before .before .before .before .before .before .if1 .left) (first-next _ _ _ (turned _ _ (c .before .before .before .before .before .is-covered .ensures) ∙ c .before .before .before .before .if2 .left) (first-next _ _ _ (turned _ _ (c .before .before .before .is-granted .ensures) ∙ c .before .before .if3 .left) (first-here _ _ _ (sym (c .before .contains .ensures) ∙ c .if4 .taken))))
+returns-4 c = search first-that-holds depth 12
 
 returns-5 : tie.Need-returns-5
 unfolding assignRules
-returns-5 c = first-next _ _ _ (sym (c .before .before .before .before .before .before .before .is-unknown .ensures) ∙ c .before .before .before .before .before .before .if1 .left) (first-next _ _ _ (turned _ _ (c .before .before .before .before .before .is-covered .ensures) ∙ c .before .before .before .before .if2 .left) (first-next _ _ _ (turned _ _ (c .before .before .before .is-granted .ensures) ∙ c .before .before .if3 .left) (first-next _ _ _ (sym (c .before .contains .ensures) ∙ c .if4 .left) first-none)))
+returns-5 c = search first-that-holds depth 12
 
 pub assign-outcome-spec : {M : Type 1} → statement M
 assign-outcome-spec =

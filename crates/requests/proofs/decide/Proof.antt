@@ -1,5 +1,5 @@
 use mathlib.Core.Path.{_∙_}
-use borrow.Author.Tests.{ne-eqb}
+use Rattle.requests.proofs.ByKind.{rest-none}
 use borrow.Author.Needs.{needs}
 use Rattle.requests.proofs.decide.Statement.{statement}
 use Rattle.requests.proofs.decide.Tie as tie
@@ -65,7 +65,7 @@ returns-8 c = c .delete-edge .ensures ∙ rw (c .before .match .keys8)
 
 returns-9 : tie.Need-returns-9
 unfolding Rattle.requests.specs.Requests.decide
-returns-9 c = c .refused .ensures ∙ rw (ne-eqb _ 1 (c .before .match .rest .0 .0 .0 .0 .0 .0 .0 .1), ne-eqb _ 2 (c .before .match .rest .0 .0 .0 .0 .0 .0 .1), ne-eqb _ 3 (c .before .match .rest .0 .0 .0 .0 .0 .1), ne-eqb _ 4 (c .before .match .rest .0 .0 .0 .0 .1), ne-eqb _ 5 (c .before .match .rest .0 .0 .0 .1), ne-eqb _ 6 (c .before .match .rest .0 .0 .1), ne-eqb _ 7 (c .before .match .rest .0 .1), ne-eqb _ 8 (c .before .match .rest .1))
+returns-9 c = c .refused .ensures ∙ rw (rest-none _ (c .before .match .rest))
 
 pub decide-spec : {M : Type 1} → statement M
 decide-spec =

@@ -3,7 +3,7 @@ use mathlib.Core.Path.{sym, _∙_, ap}
 use native.Mathlib.Omega.{arith}
 use borrow.Author.Tests.{not-true, not-false}
 use Rattle.sections.proofs.Answers.{got, lost}
-use Rattle.rows.specs.Rows.{rangeAt, conditionAt, rowAt, noRow}
+use Rattle.rows.specs.Rows.{rangeAt, conditionAt, tableRowAt, noTableRow}
 use Rattle.sections.proofs.Laws.{refused-by, count-most}
 use Rattle.rows.proofs.Laws.{range-answers}
 use borrow.Author.Needs.{needs}
@@ -23,12 +23,12 @@ no-row-requires : tie.Need-no-row-requires
 no-row-requires c κs = search needs
 
 returns : tie.Need-returns
-unfolding rowAt
+unfolding tableRowAt
 returns c =
     let at-read-range = c .before .before .before in
     let e = c .before .enum-told .given .1 in
     let f = lost range-answers (rangeAt _ _ _ _) (at-read-range .read-range .ensures) e in
-    c .no-row .ensures ∙ ap noRow e ∙ rw f
+    c .no-row .ensures ∙ ap noTableRow e ∙ rw f
 
 read-count-requires : tie.Need-read-count-requires
 read-count-requires c κs = search needs
@@ -46,7 +46,7 @@ no-row-requires-2 : tie.Need-no-row-requires-2
 no-row-requires-2 c κs = search needs
 
 returns-2 : tie.Need-returns-2
-unfolding rowAt
+unfolding tableRowAt
 returns-2 c =
     let at-enum-told2 = c .before .before in
     let at-read-count = at-enum-told2 .before .before in
@@ -55,7 +55,7 @@ returns-2 c =
     let e = at-enum-told2 .enum-told2 .given .1 in
     let f = got range-answers (rangeAt _ _ _ _) (at-read-range .read-range .ensures) (at-hf .hf .given .1) in
     let b = sym (at-read-count .read-count .ensures) ∙ e in
-    refused-by noRow (c .no-row2 .ensures) (c .before .ended-by .ensures) e ∙ rw (f, b)
+    refused-by noTableRow (c .no-row2 .ensures) (c .before .ended-by .ensures) e ∙ rw (f, b)
 
 make-row-requires : tie.Need-make-row-requires
 make-row-requires c κs =
@@ -64,7 +64,7 @@ make-row-requires c κs =
     omega (arith, count-most _ _ _ (sym (at-read-count .read-count .ensures) ∙ at-b .b .given .1))
 
 returns-3 : tie.Need-returns-3
-unfolding rowAt
+unfolding tableRowAt
 returns-3 c =
     let at-b = c .before .before .before in
     let at-read-count = at-b .before .before in
@@ -92,7 +92,7 @@ no-row-requires-3 : tie.Need-no-row-requires-3
 no-row-requires-3 c κs = search needs
 
 returns-4 : tie.Need-returns-4
-unfolding rowAt conditionAt
+unfolding tableRowAt conditionAt
 returns-4 c =
     let at-enum-told3 = c .before .before in
     let at-read-set = at-enum-told3 .before .before in
@@ -107,7 +107,7 @@ returns-4 c =
     let b = sym (at-read-count .read-count .ensures) ∙ at-b .b .given .1 in
     let y = not-false (at-args .args .assign) (at-if1 .if1 .left) in
     let n = sym (at-read-set .read-set .ensures) ∙ e in
-    refused-by noRow (c .no-row3 .ensures) (c .before .ended-by2 .ensures) e ∙ rw (f, b, y, n)
+    refused-by noTableRow (c .no-row3 .ensures) (c .before .ended-by2 .ensures) e ∙ rw (f, b, y, n)
 
 read-set-requires-2 : tie.Need-read-set-requires-2
 read-set-requires-2 c κs = search needs
@@ -125,7 +125,7 @@ no-row-requires-4 : tie.Need-no-row-requires-4
 no-row-requires-4 c κs = search needs
 
 returns-5 : tie.Need-returns-5
-unfolding rowAt conditionAt
+unfolding tableRowAt conditionAt
 returns-5 c =
     let at-enum-told4 = c .before .before in
     let at-read-set2 = at-enum-told4 .before .before in
@@ -143,7 +143,7 @@ returns-5 c =
     let y = not-false (at-args .args .assign) (at-if1 .if1 .left) in
     let n = sym (at-read-set .read-set .ensures) ∙ at-n .n .given .1 in
     let z = sym (at-read-set2 .read-set2 .ensures) ∙ e in
-    refused-by noRow (c .no-row4 .ensures) (c .before .ended-by3 .ensures) e ∙ rw (f, b, y, n, z)
+    refused-by noTableRow (c .no-row4 .ensures) (c .before .ended-by3 .ensures) e ∙ rw (f, b, y, n, z)
 
 make-row-requires-2 : tie.Need-make-row-requires-2
 make-row-requires-2 c κs =
@@ -152,7 +152,7 @@ make-row-requires-2 c κs =
     omega (arith, count-most _ _ _ (sym (at-read-count .read-count .ensures) ∙ at-b .b .given .1))
 
 returns-6 : tie.Need-returns-6
-unfolding rowAt conditionAt
+unfolding tableRowAt conditionAt
 returns-6 c =
     let at-z = c .before .before in
     let at-read-set2 = at-z .before .before in
