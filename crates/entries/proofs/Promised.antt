@@ -1,14 +1,13 @@
 -- What the entries promise, for any bytes and numbers. Assumes nothing.
 use Prim.Native.Nat.{ℕ, _+_, _*_, _≤_, _<_}
-use mathlib.Core.Path.{_≡_, refl, sym, ap, _∙_, subst}
-use mathlib.Core.Bool.{true, false}
+use mathlib.Core.Path.{_≡_, refl, sym, _∙_, subst}
+use mathlib.Core.Bool.{true}
 use mathlib.Core.List.{List}
 use native.Mathlib.Omega.{arith}
-use borrow.Author.Tests.{le-leb}
 use lib.ListN.{length, getD}
 use lib.Seq.{sets}
 use Rattle.sets.specs.Tests.{_and_, _or_}
-use Rattle.sets.proofs.Tests.{clash, and-i, or-l, or-r}
+use Rattle.sets.proofs.Tests.{and-i, or-l, or-r}
 use Rattle.policy.specs.declared.Policy.{Policy}
 use Rattle.policy.specs.declared.Answer.{Answer}
 use Rattle.requests.specs.declared.Request.{Request}
@@ -19,18 +18,19 @@ use Rattle.requests.proofs.Decided.{every-request, outcome-given}
 use Rattle.number.specs.Number.{part}
 use Rattle.number.proofs.Parts.{stands-byte, stands-part}
 use Rattle.number.proofs.Stores.{sets-stands}
-use Rattle.reading.specs.declared.How.the-variants.{Accepted, Refused}
+use Rattle.reading.specs.declared.How.the-variants.{Accepted}
 use Rattle.reading.specs.File.{readPolicy}
 use Rattle.reading.proofs.Theorems.{accepted-good, refused-within}
 use Rattle.layout.specs.Layout.{policyBytes}
 use Rattle.trips.proofs.ReadWritten.{read-written-policy}
 use Rattle.listing.specs.Listing.{entryCount, entriesFor}
-use Rattle.answers.specs.Answers.{Fields, apart, refusal}
-use Rattle.answers.proofs.Laws.{outcome-of, number-of, length-of}
+use Rattle.answers.specs.Answers.{fields, apart}
+use Rattle.answers.proofs.Laws.{outcome-of, length-of}
 use Rattle.entries.specs.Entries.{CheckOf, RequestOf, ListOf, QuestionOf, TableOf}
-use Rattle.entries.specs.Outcomes.{ofBadFile, Refusal, checkGives, requestGives, listingGives, questionGives, tableGives}
+use Rattle.entries.specs.Outcomes.{ofBadFile, checkGives, requestGives, listingGives, questionGives, tableGives}
 use Rattle.entries.specs.Steps as steps
 use Rattle.entries.proofs.Ends as ends
+use Rattle.entries.proofs.Refused.{bad-number}
 
 -- ---- Two results that satisfy a contract are equal.
 
@@ -52,10 +52,6 @@ module _ {s : List ℕ} {r t : ℕ} where
     listing-one v w = (v .answer ∙ sym (w .answer), v .bytes ∙ sym (w .bytes))
 
 -- ---- Which outcomes each entry may give.
-
-bad-number : (s : List ℕ) {c p : ℕ} → readPolicy s .how ≡ Refused c p → ofBadFile c ≡ true
-unfolding ofBadFile
-bad-number s q = let w = refused-within s q in and-i _ _ (le-leb _ _ (w .low)) (le-leb _ _ (w .high))
 
 -- the numbers beside a bad file's
 check-some : checkGives 0 ≡ true
@@ -129,42 +125,13 @@ module _ (s : List ℕ) where
       by (ends.bad-file k q e) = rw (outcome-of e) (or-l _ _ (bad-number s q))
       by (ends.done q e) = rw (outcome-of e) (table-some .0)
 
--- ---- A refusal.
-
--- one of a bad file, and any other
-bad-refusal : (s : List ℕ) {c p : ℕ} {f : Fields} → readPolicy s .how ≡ Refused c p → f ≡ refusal c p → Refusal f
-bad-refusal s q e = rw e (record { number = refl; length = refl; place = clash (bad-number s q) })
-
-any-refusal : {c : ℕ} {f : Fields} → f ≡ refusal c 0 → Refusal f
-any-refusal e = rw e (record { number = refl; length = refl; place = λ u. refl })
-
-module _ (s : List ℕ) {o a : List ℕ} {r : ℕ} (n : apart r .outcome ≡ 0 → ⊥) where
-  pub request-refused : (x : Request) → RequestOf s x o r a → Refusal (apart r) × (a ≡ o)
-  request-refused x w = by (ends.request-ends s x o w)
-    where
-      by : ends.RequestEnds s x o r a → Refusal (apart r) × (a ≡ o)
-      by (ends.bad-file q e b) = (bad-refusal s q e, b)
-      by (ends.refused q d z e b) = (any-refusal e, b)
-      by (ends.too-short q d z l e b) = (any-refusal e, b)
-      by (ends.done q d z l e b) = absurd (n (outcome-of e))
-
-  pub listing-refused : (officer : ℕ) → ListOf s officer o r a → Refusal (apart r) × (a ≡ o)
-  listing-refused officer w = by (ends.listing-ends s officer o w)
-    where
-      by : ends.ListEnds s officer o r a → Refusal (apart r) × (a ≡ o)
-      by (ends.bad-file q e b) = (bad-refusal s q e, b)
-      by (ends.unknown q d l e b) = (any-refusal e, b)
-      by (ends.too-short q d k l e b) = (any-refusal e, b)
-      by (ends.done q d k l e b) = absurd (n (outcome-of e))
-
 -- ---- What is accepted: an outcome of 0 leaves one way in which the entry has ended.
 
 -- d is what was decided, s the file, o and a the buffer before and after
 pub record RequestDone (s o : List ℕ) (d : Answer) (r : ℕ) (a : List ℕ) : Type 0 where
   pub loaded : readPolicy s .how ≡ Accepted
   pub outcome : d .outcome ≡ 0
-  pub number : apart r .number ≡ d .number
-  pub count : apart r .length ≡ length (policyBytes (d .policy))
+  pub answer : apart r ≡ fields 0 (d .number) 0 (length (policyBytes (d .policy)))
   pub room : length (policyBytes (d .policy)) ≤ length o
   pub bytes : a ≡ sets o 0 (policyBytes (d .policy))
 
@@ -178,10 +145,10 @@ request-done s x o {r} {a} w z = by (ends.request-ends s x o w)
     by (ends.too-short q d y l e b) = absurd (omega (arith, outcome-of e, z))
     by (ends.done {d = k} q d y l e b) =
         subst (λ (h : Answer). RequestDone s o h r a) d
-        (record { loaded = q; outcome = y; number = number-of e; count = length-of e; room = l; bytes = b })
+        (record { loaded = q; outcome = y; answer = e; room = l; bytes = b })
 
 pub record ListingDone (p : Policy) (officer : ℕ) (o : List ℕ) (r : ℕ) (a : List ℕ) : Type 0 where
-  pub count : apart r .length ≡ entryCount p officer
+  pub answer : apart r ≡ fields 0 0 0 (entryCount p officer)
   pub room : 3 * entryCount p officer ≤ length o
   pub bytes : a ≡ sets o 0 (entriesFor p officer)
 
@@ -194,7 +161,7 @@ listing-done s officer o {r} {a} w z = by (ends.listing-ends s officer o w)
     by (ends.unknown q d l e b) = absurd (omega (arith, outcome-of e, z))
     by (ends.too-short q d k l e b) = absurd (omega (arith, outcome-of e, z))
     by (ends.done q d k l e b) =
-        subst (λ (h : Policy). ListingDone h officer o r a) d (record { count = length-of e; room = l; bytes = b })
+        subst (λ (h : Policy). ListingDone h officer o r a) d (record { answer = e; room = l; bytes = b })
 
 -- ---- Any sequence of requests from a loaded file.
 
@@ -210,7 +177,7 @@ written bs o l =
 -- the buffer up to the length that is returned is the file of the policy after the request
 pub request-file : (s : List ℕ) (x : Request) (o : List ℕ) {r : ℕ} {a : List ℕ} → RequestOf s x o r a → apart r .outcome ≡ 0
     → part a 0 (apart r .length) ≡ policyBytes (decide (readPolicy s .policy) x .policy)
-request-file s x o w z = let d = request-done s x o w z in rw (d .count, d .bytes) (written _ _ (d .room))
+request-file s x o w z = let d = request-done s x o w z in rw (length-of (d .answer), d .bytes) (written _ _ (d .room))
 
 pub file-reached : {start file : List ℕ} → readPolicy start .how ≡ Accepted → steps.FileReached start file
     → (readPolicy file .how ≡ Accepted) × Reached (readPolicy start .policy) (readPolicy file .policy)

@@ -1,12 +1,14 @@
 -- Which outcomes each entry may give, and what stands beside a refusal.
-use Prim.Native.Nat.{ℕ}
+use Prim.Native.Nat.{ℕ, _≤_}
 use mathlib.Core.Path.{_≡_}
 use mathlib.Core.Bool.{Bool, false}
-use mathlib.Core.List.{[], _∷_}
+use mathlib.Core.List.{List, [], _∷_}
 use lib.Dec.{eqb, leb}
 use Rattle.sets.specs.Tests.{_and_, _or_}
 use Rattle.requests.specs.Numbers.{among, mayGive}
-use Rattle.answers.specs.Answers.{Fields}
+use Rattle.reading.specs.declared.How.the-variants.{Refused}
+use Rattle.reading.specs.File.{readPolicy}
+use Rattle.answers.specs.Answers.{Fields, apart, refusal}
 
 -- a bad file's: 20 to 27
 unfoldable pub ofBadFile : ℕ → Bool
@@ -17,6 +19,11 @@ pub record Refusal (f : Fields) : Type 0 where
   pub number : f .number ≡ 0
   pub length : f .length ≡ 0
   pub place : ofBadFile (f .outcome) ≡ false → f .place ≡ 0
+
+-- "a bad file's refusal comes first": the answer is the file's own refusal, with its place, exactly if the file is refused so
+pub record BadFile (s : List ℕ) (r : ℕ) : Type 0 where
+  pub then : (c p : ℕ) → readPolicy s .how ≡ Refused c p → apart r ≡ refusal c p
+  pub only : 20 ≤ apart r .outcome → readPolicy s .how ≡ Refused (apart r .outcome) (apart r .place)
 
 unfoldable pub checkGives : ℕ → Bool
 checkGives n = ofBadFile n or eqb n 0

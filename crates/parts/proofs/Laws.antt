@@ -14,7 +14,7 @@ use Rattle.number.specs.Run.{Step, go, stop}
 use Rattle.reading.specs.declared.How as how
 use Rattle.reading.specs.declared.FileRead.{FileRead}
 use Rattle.reading.specs.declared.Places.{Places}
-use Rattle.reading.specs.File.{File, fileAt, fileRead}
+use Rattle.reading.specs.File.{File, fileAt, fileRead, readPolicy}
 use Rattle.reading.proofs.Bounds.{Placed}
 use Rattle.reading.proofs.Theorems.{file-placed}
 use Rattle.parts.specs.declared.Part.the-variants.{Found, Refused}
@@ -82,3 +82,7 @@ found-inside s k {a} {n} q =
     let w = part-found s k q in
     let i = file-inside k (w .3) in
     (omega (arith, i .some, w .5), omega (arith, i .within, i .some, w .4, w .5))
+
+pub part-accepted : (s : List ℕ) (k : ℕ) {a n : ℕ} → partAt s k ≡ Found a n → readPolicy s .how ≡ how.the-variants.Accepted
+unfolding readPolicy
+part-accepted s k q = let w = part-found s k q in rw (w .3)

@@ -3,21 +3,10 @@
 use Prim.Native.Nat.{ℕ}
 use mathlib.Core.Path.{_≡_, refl}
 use mathlib.Core.List.{List, [], _∷_, _++_, map}
-use Rattle.sets.specs.Tests.{_and_, _or_, neg, _implies_, _iff_}
-use Rattle.sets.specs.Sets.{has, all, any, least, setOf, subset}
-use Rattle.order.specs.Order.{senior, atLeast, faulty}
-use Rattle.ranges.specs.Ranges.{inside, encapsulated, overlapInPart}
-use Rattle.ranges.specs.Rows.{within, lowNotJunior, notEncapsulated, overlap}
-use Rattle.policy.specs.Outcome.{first}
-use Rattle.number.specs.Number.{lastOf, valueOf, isLong, isOver, endsWith, numAt}
-use Rattle.number.specs.Run.{run}
-use Rattle.sections.specs.Numbers.{setAt, countAt, memberAt}
-use Rattle.sections.specs.Sections.{allBelow, juniorStep, juniorsAt, orderAt, userStep, peopleAt, memberStep, membersAt}
-use Rattle.rows.specs.Rows.{rangeAt, conditionAt, tableRowAt, rowStep, tableAt, rangeStep, rangesAt}
-use Rattle.faults.specs.Faults.{notStrict, someLow, someOpen, twoOverlap, fault}
 use Rattle.reading.specs.declared.How as how
 use Rattle.reading.specs.declared.How.the-variants.{Accepted}
-use Rattle.reading.specs.File.{oneAt, frontAt, restAt, judge, fileAt, readPolicy}
+use Rattle.reading.proofs.Opened.{reading-opened}
+use Rattle.reading.specs.File.{readPolicy}
 use Rattle.parts.specs.declared.Part.{Part}
 use Rattle.parts.specs.declared.Part.the-variants.{Found, Refused}
 use Rattle.parts.specs.Parts.{isTable, startOf, endOf, partAt}
@@ -52,9 +41,9 @@ abbrev finds : List (ℕ × Part)
 finds = (0, Refused 1 0) ∷ (1, Found 12 1) ∷ (4, Found 15 1) ∷ (5, Found 16 4) ∷ (6, Refused 1 0) ∷ []
 
 read : map (λ c. readPolicy (c .0) .how) readings ≡ map (λ c. c .1) readings
-unfolding readPolicy fileAt judge restAt frontAt oneAt notStrict someLow someOpen twoOverlap fault rangeAt conditionAt tableRowAt rowStep tableAt rangeStep rangesAt allBelow juniorStep juniorsAt orderAt userStep peopleAt memberStep membersAt setAt countAt memberAt run lastOf valueOf isLong isOver endsWith numAt first within lowNotJunior notEncapsulated overlap inside encapsulated overlapInPart senior atLeast faulty has all any least setOf subset _and_ _or_ neg _implies_ _iff_
+unfolding reading-opened
 read = refl
 
 found : map (λ c. partAt (listed ++ (3 ∷ [])) (c .0)) finds ≡ map (λ c. c .1) finds
-unfolding partAt isTable startOf endOf fileAt judge restAt frontAt oneAt notStrict someLow someOpen twoOverlap fault rangeAt conditionAt tableRowAt rowStep tableAt rangeStep rangesAt allBelow juniorStep juniorsAt orderAt userStep peopleAt memberStep membersAt setAt countAt memberAt run lastOf valueOf isLong isOver endsWith numAt first within lowNotJunior notEncapsulated overlap inside encapsulated overlapInPart senior atLeast faulty has all any least setOf subset _and_ _or_ neg _implies_ _iff_
+unfolding partAt isTable startOf endOf reading-opened
 found = refl

@@ -1,6 +1,6 @@
 -- Demand 1. Assumes nothing.
 use Prim.Native.Nat.{ℕ, _+_, _≤_}
-use mathlib.Core.Path.{_≡_, refl}
+use mathlib.Core.Path.{_≡_}
 use mathlib.Core.Bool.{true}
 use mathlib.Core.List.{List}
 use native.Mathlib.Omega.{arith}
@@ -16,26 +16,13 @@ use Rattle.answers.proofs.Laws.{place-of, length-of}
 use Rattle.entries.specs.Entries.{CheckOf, RequestOf, ListOf, QuestionOf, TableOf}
 use Rattle.entries.specs.Outcomes.{Refusal, checkGives, requestGives, listingGives, questionGives, tableGives}
 use Rattle.entries.proofs.Ends as ends
+use Rattle.entries.proofs.Refused as entries-refused
 use Rattle.entries.proofs.Promised as entries
 
 -- "Every policy file and every request, however damaged, gets an outcome from the table."
 
--- There is an answer for any bytes and numbers: s is the file, o the lent buffer; and only one, with one content of the buffer.
-pub check-answers : (s : List ℕ) → (r : ℕ) × CheckOf s r
-check-answers s = (_, record { answer = refl })
-
-pub request-answers : (s : List ℕ) (x : Request) (o : List ℕ) → (r : ℕ) × (a : List ℕ) × RequestOf s x o r a
-request-answers s x o = (_, _, record { answer = refl; bytes = refl })
-
-pub listing-answers : (s : List ℕ) (officer : ℕ) (o : List ℕ) → (r : ℕ) × (a : List ℕ) × ListOf s officer o r a
-listing-answers s officer o = (_, _, record { answer = refl; bytes = refl })
-
-pub question-answers : (s : List ℕ) (user permission : ℕ) → (r : ℕ) × QuestionOf s user permission r
-question-answers s user permission = (_, record { answer = refl })
-
-pub table-answers : (s : List ℕ) (k : ℕ) → (r : ℕ) × TableOf s k r
-table-answers s k = (_, record { answer = refl })
-
+-- That each entry returns, whatever it is given, is what the checker shows of its code. Its answer is the only one that meets the contract, with
+-- one content of the buffer: s is the file, o the lent buffer before, a and b after.
 module _ {s : List ℕ} {r t : ℕ} where
   pub check-one : CheckOf s r → CheckOf s t → r ≡ t
   check-one = entries.check-one
@@ -52,7 +39,8 @@ module _ {s : List ℕ} {r t : ℕ} where
   pub listing-one : {officer : ℕ} {o a b : List ℕ} → ListOf s officer o r a → ListOf s officer o t b → (r ≡ t) × (a ≡ b)
   listing-one = entries.listing-one
 
--- Its outcome is one of the table's: a bad file's, and those of the entry; for a request, of its kind.
+-- Its outcome is one of the table's: a bad file's, and those of the entry; for a request, of its kind, by the rule of the constant table, and 10
+-- only where the kind may be accepted.
 module _ {s : List ℕ} {r : ℕ} where
   pub check-outcome : CheckOf s r → checkGives (apart r .outcome) ≡ true
   check-outcome = entries.check-gives s
@@ -88,14 +76,24 @@ table-inside {s} {k} {r} w = by (ends.table-ends s k w)
     by (ends.bad-file t q e) = omega (arith, place-of e, length-of e, refused-within s q .place)
     by (ends.done q e) = omega (arith, place-of e, length-of e, found-inside s k q .1)
 
--- "A refusal leaves the policy and all lent memory unchanged."
+-- "A refusal leaves the policy and all lent memory unchanged." Number and length are 0, and so is the place unless the file is bad.
 
-module _ {s o a : List ℕ} {r : ℕ} (n : apart r .outcome ≡ 0 → ⊥) where
-  pub request-stays : {x : Request} → RequestOf s x o r a → Refusal (apart r) × (a ≡ o)
-  request-stays = entries.request-refused s n _
+module _ {s : List ℕ} {r : ℕ} (n : apart r .outcome ≡ 0 → ⊥) where
+  pub check-refusal : CheckOf s r → Refusal (apart r)
+  check-refusal = entries-refused.check-refused s n
 
-  pub listing-stays : {officer : ℕ} → ListOf s officer o r a → Refusal (apart r) × (a ≡ o)
-  listing-stays = entries.listing-refused s n _
+  pub question-refusal : {user permission : ℕ} → QuestionOf s user permission r → Refusal (apart r)
+  question-refusal = entries-refused.question-refused s n _ _
+
+  pub table-refusal : {k : ℕ} → TableOf s k r → Refusal (apart r)
+  table-refusal = entries-refused.table-refused s n _
+
+  module _ {o a : List ℕ} where
+    pub request-stays : {x : Request} → RequestOf s x o r a → Refusal (apart r) × (a ≡ o)
+    request-stays = entries-refused.request-refused s n _
+
+    pub listing-stays : {officer : ℕ} → ListOf s officer o r a → Refusal (apart r) × (a ≡ o)
+    listing-stays = entries-refused.listing-refused s n _
 
 pub policy-stays : (p : Policy) (x : Request) → (decide p x .outcome ≡ 0 → ⊥) → decide p x .policy ≡ p
 policy-stays p x = every-request p x .unchanged

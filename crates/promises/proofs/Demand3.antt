@@ -23,6 +23,7 @@ use Rattle.reading.proofs.Theorems.{accepted-good}
 use Rattle.listing.specs.Listing.{accepts, entryCount, entriesFor, EntryIs, InListing, InKinds, Earlier}
 use Rattle.listing.proofs.Promised.{bytes-long, listed-accepted, exactly, ascending, listed-safe, listed-good, untouched}
 use Rattle.answers.specs.Answers.{apart}
+use Rattle.answers.proofs.Laws.{length-of}
 use Rattle.entries.specs.Entries.{RequestOf, ListOf}
 use Rattle.entries.specs.Steps.{FileReached}
 use Rattle.entries.proofs.Promised.{ListingDone, listing-done, byte-in, file-reached}
@@ -46,7 +47,7 @@ module _ {start file : List ℕ} (ok : readPolicy start .how ≡ Accepted) (way 
 
   -- the count
   pub counted : apart r .length ≡ entryCount s officer
-  counted = done .count
+  counted = length-of (done .answer)
 
   same-byte : (i : ℕ) → i < 3 * entryCount s officer → getD a i 0 ≡ getD (entriesFor s officer) i 0
   same-byte i l =
@@ -78,13 +79,17 @@ module _ {start file : List ℕ} (ok : readPolicy start .how ≡ Accepted) (way 
 
   -- "the listing holds exactly the create, delete-role, insert-edge and delete-edge requests that would be accepted"
 
-  -- what stands in it, kind, first and second number, is accepted from this officer in any buffer that is long enough
+  -- what stands in it is a request of kinds 5 to 8 of roles below 64
+  pub listed-in-kinds : {n k x y : ℕ} → n < apart r .length → EntryIs a n k x y → InKinds k x y
+  listed-in-kinds l e = listed-accepted s officer (in-listing l e) .1
+
+  -- and it is accepted from this officer in any buffer that is long enough
   pub listed-accepted-by-entry : {n k x y : ℕ} → n < apart r .length → EntryIs a n k x y → {o′ a′ : List ℕ} {r′ : ℕ}
-      → RequestOf file (ask officer k x y) o′ r′ a′ → 10375 ≤ length o′ → apart r′ .outcome ≡ 0
+      → RequestOf file (ask officer k x y) o′ r′ a′ → 10375 ≤ length o′ → InKinds k x y × (apart r′ .outcome ≡ 0)
   unfolding accepts
   listed-accepted-by-entry {n} {k} {x} {y} l e v m =
       let t = eqb-true _ 0 (listed-accepted s officer (in-listing l e) .0) in
-      room-enough v loaded (sym (every-request s (ask officer k x y) .outcome) ∙ t) m
+      (listed-in-kinds l e, room-enough v loaded (sym (every-request s (ask officer k x y) .outcome) ∙ t) m)
 
   -- and a request of kinds 5 to 8 that is accepted stands in it
   pub accepted-listed-by-entry : {k x y : ℕ} → 5 ≤ k → k ≤ 8 → {o′ a′ : List ℕ} {r′ : ℕ} → RequestOf file (ask officer k x y) o′ r′ a′

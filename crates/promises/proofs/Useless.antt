@@ -1,157 +1,205 @@
--- The useless versions that document 01 lists do not pass: none of them satisfies the entry's contract. Assumes nothing.
+-- The useless versions that document 01 lists do not pass: no version of an entry that behaves so meets the entry's contract (specs/Versions.antt).
+-- The witness is F, the department's policy.
+-- Assumes nothing.
 use Prim.Native.Nat.{ℕ, _≤_, _<_}
 use mathlib.Core.Path.{_≡_, refl, sym, ap, _∙_, subst}
-use mathlib.Core.Logic.{⊎-elim}
 use mathlib.Core.List.{List, [], _∷_}
 use native.Mathlib.Omega.{arith}
-use lib.ListN.{length, getD, replicate, length-replicate, List·getD-eq-default}
+use lib.ListN.{length, getD, replicate, length-replicate}
 use lib.Seq.{sets}
-use Rattle.sets.specs.Tests.{_and_, _or_, neg, _implies_, _iff_}
-use Rattle.sets.specs.Sets.{has, all, any, least, setOf, subset, lowestFree, size}
-use Rattle.sets.proofs.Digits.{lt-or-le}
-use Rattle.order.specs.Order.{senior, atLeast, reaches, reached, comparable, tabFrom, relate, faulty}
-use Rattle.order.specs.Effects.{inserted, insert}
-use Rattle.ranges.specs.Ranges.{inside, encapsulated, overlapInPart}
-use Rattle.ranges.specs.Rows.{within, lowNotJunior, notEncapsulated, overlap, unsound}
 use Rattle.policy.specs.declared.Policy.{Policy}
-use Rattle.policy.specs.Outcome.{first, answer}
-use Rattle.hierarchy.specs.Rules.{site, edgeIn, rowAllows, mayModify, unknownRole, unknownPair, spoils, insertRules, insertEdge}
+use Rattle.policy.specs.declared.Answer.{Answer}
+use Rattle.policy.specs.Build.{withRoles}
+use Rattle.policy.specs.Outcome.{accepted}
 use Rattle.requests.specs.declared.Request.{Request}
 use Rattle.requests.specs.Requests.{ask, decide}
-use Rattle.requests.proofs.Decided.{every-request}
-use Rattle.number.specs.Number.{part, lastOf, valueOf, isLong, isOver, endsWith, numAt, groupsOf, numBytes}
-use Rattle.number.specs.Run.{run}
-use Rattle.sections.specs.Numbers.{setAt, countAt, memberAt}
-use Rattle.sections.specs.Sections.{allBelow, juniorStep, juniorsAt, orderAt, userStep, peopleAt, memberStep, membersAt}
-use Rattle.rows.specs.Rows.{rangeAt, conditionAt, tableRowAt, rowStep, tableAt, rangeStep, rangesAt}
-use Rattle.faults.specs.Faults.{notStrict, someLow, someOpen, twoOverlap, fault}
-use Rattle.reading.specs.declared.How.the-variants.{Accepted, Refused}
+use Rattle.requests.specs.Examples.{orderOf, F}
+use Rattle.requests.proofs.Cases.{rules-opened}
+use Rattle.reading.specs.declared.How.the-variants.{Accepted}
 use Rattle.reading.specs.declared.Loaded.{Loaded}
-use Rattle.reading.specs.File.{oneAt, frontAt, restAt, judge, fileAt, readPolicy}
-use Rattle.layout.specs.Layout.{sectionsBytes, policyBytes}
-use Rattle.listing.specs.Listing.{entryCount, EntryIs}
-use Rattle.answers.specs.Answers.{apart}
+use Rattle.reading.specs.File.{readPolicy}
+use Rattle.layout.specs.Layout.{policyBytes}
+use Rattle.layout.proofs.Opened.{writing-opened}
+use Rattle.listing.specs.Listing.{EntryIs}
+use Rattle.answers.specs.Answers.{packed, apart}
 use Rattle.answers.proofs.Laws.{outcome-of}
-use Rattle.entries.specs.Entries.{RequestOf, ListOf}
-use Rattle.entries.specs.Steps.{here, next}
-use Rattle.entries.proofs.Ends as ends
-use Rattle.entries.proofs.Promised.{byte-in}
-use Rattle.promises.proofs.Demand1.{request-answers}
-use Rattle.promises.proofs.Demand2.{bad-then, accepted-only, listing-enough, room-enough, accepted-policy}
+use Rattle.entries.specs.Entries.{RequestOf, requestFields, requestBytes}
+use Rattle.entries.specs.Steps.{here}
+use Rattle.entries.proofs.Promised.{request-done, byte-in}
+use Rattle.promises.specs.Versions.{CheckVersion, RequestVersion, ListingVersion, MeetsCheck, MeetsRequest, MeetsListing, Known, RefusesFiles, RefusesRequests, AcceptsRequests, Copies, EchoesLater, SameListing, Invents}
+use Rattle.promises.proofs.Demand2.{outcome-decided, accepted-file, accepted-policy}
+use Rattle.promises.proofs.Others.{check-accepts, listing-enough}
 use Rattle.promises.proofs.Demand3.{counted, listed-accepted-by-entry, accepted-listed-by-entry}
+use Rattle.promises.proofs.Department.{departmentFile, department-loads}
 
--- document 01's policy of 20 bytes, and a request on it: its officer inserts edge (1, 2)
-abbrev example : List ℕ
-example = 1 ∷ 15 ∷ 0 ∷ 1 ∷ 1 ∷ 7 ∷ 1 ∷ 0 ∷ 1 ∷ 0 ∷ 1 ∷ 0 ∷ 0 ∷ 0 ∷ 0 ∷ 0 ∷ 1 ∷ 0 ∷ 0 ∷ 3 ∷ []
+-- ---- the witness: what u0 asks of F, and what comes of it, by computation
 
-abbrev edge : Request
-edge = ask 0 7 1 2
+-- case 1, u0 inserts (QE1, PE1), and then case 8, u0 creates under PL1 over PE1: two different requests
+abbrev insertion : Request
+insertion = ask 0 7 4 3
 
-abbrev given : Policy
-given = readPolicy example .policy
+abbrev creation : Request
+creation = ask 0 5 5 3
 
--- it is a policy file with one user, the request is accepted, and on the policy after it the same request is refused with 5
-facts : (readPolicy example .how ≡ Accepted) × (decide given edge .outcome ≡ 0) × (decide (decide given edge .policy) edge .outcome ≡ 5) × (given .people .users .count ≡ 1)
-unfolding readPolicy fileAt judge restAt frontAt oneAt notStrict someLow someOpen twoOverlap fault rangeAt conditionAt tableRowAt rowStep tableAt rangeStep rangesAt allBelow juniorStep juniorsAt orderAt userStep peopleAt memberStep membersAt setAt countAt memberAt run lastOf valueOf isLong isOver endsWith numAt first answer within lowNotJunior notEncapsulated overlap unsound inside encapsulated overlapInPart senior atLeast reaches reached comparable tabFrom relate faulty inserted insert has all any least setOf subset lowestFree size site edgeIn rowAllows mayModify unknownRole unknownPair spoils insertRules insertEdge decide _and_ _or_ neg _implies_ _iff_
-facts = (refl, refl, refl, refl)
+-- the policy after the one, and after both
+abbrev inserted : Policy
+inserted = withRoles F (orderOf 2047 (0 ∷ 1 ∷ 3 ∷ 7 ∷ 15 ∷ 31 ∷ 3 ∷ 67 ∷ 67 ∷ 451 ∷ 1023 ∷ []))
 
--- an input that is no policy file
-empty-file : readPolicy [] .how ≡ Refused 20 0
-unfolding readPolicy fileAt frontAt oneAt lastOf endsWith numAt least
-empty-file = refl
+abbrev created : Policy
+created = withRoles F (orderOf 4095 (0 ∷ 1 ∷ 3 ∷ 7 ∷ 15 ∷ 2079 ∷ 3 ∷ 67 ∷ 67 ∷ 451 ∷ 3071 ∷ 15 ∷ []))
 
--- every file begins with 1
-begins : (p : Policy) → getD (policyBytes p) 0 0 ≡ 1
-unfolding policyBytes sectionsBytes numBytes groupsOf
-begins p = refl
+insertion-accepted : decide F insertion ≡ accepted inserted 0
+unfolding F rules-opened
+insertion-accepted = refl
 
-some : (p : Policy) → 0 < length (policyBytes p)
-some p =
-    ⊎-elim (λ l. l) (λ l. absurd (omega (arith, begins p, List·getD-eq-default (policyBytes p) 0 {n = 0} l)))
-    (lt-or-le 0 (length (policyBytes p)))
+creation-accepted : decide inserted creation ≡ accepted created 11
+unfolding F rules-opened
+creation-accepted = refl
 
--- a buffer that is always long enough
+-- case 3, u0 inserts (QE1, PE2); and u2, who holds no administrative role, inserts what u0 may
+refusals : (decide F (ask 0 7 4 7) .outcome ≡ 3) × (decide F (ask 2 7 4 3) .outcome ≡ 3)
+unfolding F rules-opened
+refusals = (refl, refl)
+
+-- what tells the files apart: byte 7, the juniors of QE1, and byte 2, the set of roles
+bytes-differ : (getD departmentFile 7 0 ≡ 7) × (getD (policyBytes inserted) 7 0 ≡ 15) × (getD (policyBytes inserted) 2 0 ≡ 15) × (getD (policyBytes created) 2 0 ≡ 31)
+unfolding F writing-opened
+bytes-differ = (refl, refl, refl, refl)
+
+longer : (7 < length departmentFile) × (length (policyBytes inserted) ≡ 48) × (2 < length (policyBytes created))
+unfolding F writing-opened
+longer = (omega arith, refl, omega arith)
+
+-- ---- F's file and its officers u0 and u2
+
+department-policy : readPolicy departmentFile .policy ≡ F
+department-policy = ap (λ (m : Loaded). m .policy) department-loads
+
+three-users : F .people .users .count ≡ 3
+unfolding F
+three-users = refl
+
+officer-known : (officer : ℕ) → officer < 3 → Known departmentFile officer
+officer-known officer l =
+    record {
+      loaded = ap (λ (m : Loaded). m .how) department-loads;
+      user = omega (arith, l, three-users, ap (λ (p : Policy). p .people .users .count) department-policy);
+    }
+
+-- buffers that are always long enough
 abbrev room : List ℕ
 room = replicate 10375 0
-
--- the example's request: accepted in a buffer that is long enough
-edge-accepted : {o a : List ℕ} {r : ℕ} → 10375 ≤ length o → RequestOf example edge o r a → apart r .outcome ≡ 0
-edge-accepted l w = room-enough w (facts .0) (sym (every-request given edge .outcome) ∙ facts .1) l
-
--- and on the file that it leaves: refused
-module _ {o a : List ℕ} {r : ℕ} (w : RequestOf example edge o r a) (z : apart r .outcome ≡ 0) where
-  abbrev left : List ℕ
-  left = part a 0 (apart r .length)
-
-  left-file : readPolicy left ≡ record { how = Accepted; policy = decide given edge .policy }
-  left-file = accepted-policy w z
-
-  edge-refused : {p b : List ℕ} {t : ℕ} → RequestOf left edge p t b → apart t .outcome ≡ 0 → ⊥
-  edge-refused {p} {b} {t} v y =
-      let q = accepted-only v (ap (λ (m : Loaded). m .how) left-file) y .0 in
-      let u = ap (λ (m : Loaded). decide (m .policy) edge .outcome) left-file ∙ facts .2 in
-      omega (arith, q, u, every-request (readPolicy left .policy) edge .outcome)
-
--- ---- versions of the request's entry: the answer, and the buffer after it
 
 long : 10375 ≤ length room
 long = omega (arith, length-replicate {A = ℕ} 10375 0)
 
-module _ (f : List ℕ → Request → List ℕ → ℕ × List ℕ) (meets : (s : List ℕ) (x : Request) (o : List ℕ) → RequestOf s x o (f s x o .0) (f s x o .1)) where
-  -- always refusing
-  pub not-refusing : ((s : List ℕ) (x : Request) (o : List ℕ) → apart (f s x o .0) .outcome ≡ 0 → ⊥) → ⊥
-  not-refusing h = h example edge room (edge-accepted long (meets example edge room))
+abbrev wide : List ℕ
+wide = replicate 37056 0
 
-  -- always 0
-  pub not-always-0 : ((s : List ℕ) (x : Request) (o : List ℕ) → apart (f s x o .0) .outcome ≡ 0) → ⊥
-  not-always-0 h =
-      let z : _≡_ {A = ℕ} 0 20 = sym (h [] edge []) ∙ bad-then (meets [] edge []) empty-file .0 in
+wide-long : 37056 ≤ length wide
+wide-long = omega (arith, length-replicate {A = ℕ} 37056 0)
+
+-- what the request's entry gives on F is what the rules give
+outcome-on-F : {x : Request} {o a : List ℕ} {r : ℕ} → RequestOf departmentFile x o r a → 10375 ≤ length o → apart r .outcome ≡ decide F x .outcome
+outcome-on-F {x} w l =
+    outcome-decided w (officer-known 0 (omega arith) .loaded) l ∙ ap (λ (p : Policy). decide p x .outcome) department-policy
+
+-- where a request is accepted and leaves the policy q, a buffer to which the file s was copied is another, if s and q's file differ at a byte
+not-copied : {s : List ℕ} {x : Request} {o a : List ℕ} {r : ℕ} (w : RequestOf s x o r a) (z : apart r .outcome ≡ 0) {q : Policy}
+    → decide (readPolicy s .policy) x .policy ≡ q → (i : ℕ) → i < length s → i < length (policyBytes q)
+    → length s ≤ length o → (getD s i 0 ≡ getD (policyBytes q) i 0 → ⊥) → a ≡ sets o 0 s → ⊥
+not-copied {s} {x} {o} {a} w z {q} d i l m n differ copied =
+    let done = request-done s x o w z in
+    let file = ap policyBytes d in
+    let big : length (policyBytes q) ≤ length o = rw file at (done .room) in
+    let bytes : a ≡ sets o 0 (policyBytes q) = rw file at (done .bytes) in
+    differ (sym (byte-in s o i n l) ∙ ap (λ (b : List ℕ). getD b i 0) (sym copied ∙ bytes) ∙ byte-in (policyBytes q) o i big m)
+
+-- ---- versions of the check
+
+pub not-refusing-files : (f : CheckVersion) → MeetsCheck f → RefusesFiles f → ⊥
+not-refusing-files f meets h =
+    h departmentFile (outcome-of (check-accepts (meets departmentFile) (officer-known 0 (omega arith) .loaded)))
+
+-- ---- versions of the request
+
+module _ (f : RequestVersion) (meets : MeetsRequest f) where
+  inserts : apart (f departmentFile insertion room .0) .outcome ≡ 0
+  inserts = outcome-on-F (meets departmentFile insertion room) long ∙ ap (λ (d : Answer). d .outcome) insertion-accepted
+
+  pub not-refusing-requests : RefusesRequests f → ⊥
+  not-refusing-requests h = h departmentFile insertion room (officer-known 0 (omega arith)) long inserts
+
+  pub not-accepting-requests : AcceptsRequests f → ⊥
+  not-accepting-requests h =
+      let x = ask 0 7 4 7 in
+      let z = h departmentFile x room (officer-known 0 (omega arith)) long in
+      let y = outcome-on-F (meets departmentFile x room) long ∙ refusals .0 in
       omega arith
 
-  -- doing nothing but reporting acceptance
-  pub not-idle : ((s : List ℕ) (x : Request) (o : List ℕ) → f s x o .1 ≡ o) → ⊥
-  not-idle h = by (ends.request-ends example edge room (meets example edge room))
-    where
-      ok : apart (f example edge room .0) .outcome ≡ 0
-      ok = edge-accepted long (meets example edge room)
+  pub not-copying : Copies f → ⊥
+  not-copying h =
+      let d = ap (λ (p : Policy). decide p insertion .policy) department-policy ∙ ap (λ (a : Answer). a .policy) insertion-accepted in
+      not-copied (meets departmentFile insertion room) inserts d 7 (longer .0) (omega (arith, longer .1)) (omega (arith, long))
+      (λ e. omega (arith, bytes-differ .0, bytes-differ .1, e)) (h departmentFile insertion room (officer-known 0 (omega arith)) long inserts)
 
-      -- the first byte would be 1
-      first-byte : (p : Policy) → length (policyBytes p) ≤ length room → f example edge room .1 ≡ sets room 0 (policyBytes p) → ⊥
-      first-byte p l b =
-          let z : getD room 0 0 ≡ 1 = ap (λ (m : List ℕ). getD m 0 0) (sym (h example edge room) ∙ b) ∙ byte-in (policyBytes p) room 0 l (some p) ∙ begins p in
-          let y : getD room 0 0 ≡ 0 = refl in
-          omega arith
+-- a second request, on the file that the first one left: s is that file
+not-copying-later : (f : RequestVersion) → MeetsRequest f → {s : List ℕ} → s ≡ policyBytes inserted
+    → readPolicy s ≡ record { how = Accepted; policy = inserted } → Copies f → ⊥
+not-copying-later f meets {s} file loads h =
+    let ok = ap (λ (m : Loaded). m .how) loads in
+    let p : readPolicy s .policy ≡ inserted = ap (λ (m : Loaded). m .policy) loads in
+    let d : decide (readPolicy s .policy) creation ≡ accepted created 11 = ap (λ (q : Policy). decide q creation) p ∙ creation-accepted in
+    let w = meets s creation room in
+    let z = outcome-decided w ok long ∙ ap (λ (a : Answer). a .outcome) d in
+    let k : Known s 0 = record { loaded = ok; user = omega (arith, three-users, ap (λ (q : Policy). q .people .users .count) p) } in
+    let size = ap length file ∙ longer .1 in
+    not-copied w z (ap (λ (a : Answer). a .policy) d) 2 (omega (arith, size)) (longer .2) (omega (arith, size, long))
+    (λ e. omega (arith, ap (λ (b : List ℕ). getD b 2 0) file, bytes-differ .2, bytes-differ .3, e)) (h s creation room k long z)
 
-      by : ends.RequestEnds example edge room (f example edge room .0) (f example edge room .1) → ⊥
-      by (ends.bad-file q e b) = absurd (let z : _≡_ {A = ℕ} 0 1 = let p = facts .0 in cc in omega arith)
-      by (ends.refused q d n e b) = n (sym (outcome-of e) ∙ ok)
-      by (ends.too-short q d y l e b) = omega (arith, outcome-of e, ok)
-      by (ends.done {d = d} q x y l e b) = first-byte (d .policy) l b
+pub not-echoing : (f : ℕ → RequestVersion) → ((n : ℕ) → MeetsRequest (f n)) → EchoesLater f → ⊥
+not-echoing f meets h =
+    let w = meets 0 departmentFile insertion room in
+    let z = inserts (f 0) (meets 0) in
+    let d : decide (readPolicy departmentFile .policy) insertion .policy ≡ inserted =
+    ap (λ (p : Policy). decide p insertion .policy) department-policy ∙ ap (λ (a : Answer). a .policy) insertion-accepted in
+    not-copying-later (f 1) (meets 1) (accepted-file w z ∙ ap policyBytes d) (rw d at (accepted-policy w z)) (h 0)
 
--- handling the first request and echoing later ones: the second request is asked on what the first left, and gets the first one's answer
-pub not-echoing : {o a p b : List ℕ} {r : ℕ} → 10375 ≤ length o → RequestOf example edge o r a → RequestOf (part a 0 (apart r .length)) edge p r b → ⊥
-not-echoing l w v = let z = edge-accepted l w in edge-refused w z v z
+-- ---- versions of the listing
 
--- ---- versions of the listing's entry
+-- what the request's entry itself answers, to hold a listing against
+entry : RequestVersion
+entry s x o = (packed (requestFields s x o), requestBytes s x o)
 
--- always the same listing: what the example's officer can change is not what is left to change once edge (1, 2) is there
-pub not-same : (f : List ℕ → ℕ → List ℕ → ℕ × List ℕ) → ((s : List ℕ) (officer : ℕ) (o : List ℕ) → ListOf s officer o (f s officer o .0) (f s officer o .1))
-    → ((s t : List ℕ) (m n : ℕ) (o : List ℕ) → f s m o ≡ f t n o) → ⊥
-not-same f meets h =
-    let w = request-answers example edge room .2 in
-    let z = edge-accepted long w in
-    let o : List ℕ = replicate 37056 0 in
-    let big : 37056 ≤ length o = omega (arith, length-replicate {A = ℕ} 37056 0) in
-    let listing = meets example 0 o in
-    let y = listing-enough example (facts .0) listing (omega (arith, facts .3)) big in
-    let e = accepted-listed-by-entry (facts .0) here 0 listing y {k = 7} (omega arith) (omega arith) w z in
-    let same = h example (left w z) 0 0 o in
-    let v = request-answers (left w z) edge room .2 in
-    edge-refused w z v
-    (listed-accepted-by-entry (facts .0) (next edge here w z) 0 (meets (left w z) 0 o) (subst (λ (g : ℕ × List ℕ). apart (g .0) .outcome ≡ 0) same y)
-    (subst (λ (g : ℕ × List ℕ). e .0 < apart (g .0) .length) same (e .1)) (subst (λ (g : ℕ × List ℕ). EntryIs (g .1) (e .0) 7 1 2) same (e .2)) v long)
+entry-meets : MeetsRequest entry
+unfolding entry
+entry-meets s x o = record { answer = refl; bytes = refl }
 
--- an invented entry count: any but the number of requests that would be accepted
-pub not-invented : {s : List ℕ} {officer : ℕ} {o a : List ℕ} {r : ℕ} → readPolicy s .how ≡ Accepted → ListOf s officer o r a → apart r .outcome ≡ 0
-    → (apart r .length ≡ entryCount (readPolicy s .policy) officer → ⊥) → ⊥
-not-invented {s} {officer} ok w z n = n (counted ok here officer w z)
+module _ (f : ListingVersion) (meets : MeetsListing f) where
+  listed : (officer : ℕ) → officer < 3 → apart (f departmentFile officer wide .0) .outcome ≡ 0
+  listed officer l =
+      let k = officer-known officer l in
+      listing-enough departmentFile (k .loaded) (meets departmentFile officer wide) (k .user) wide-long
+
+  -- u0's listing has the insertion, and u2's has not
+  pub not-same : SameListing f → ⊥
+  not-same h =
+      let k = officer-known 0 (omega arith) in
+      let w = entry-meets departmentFile insertion room in
+      let e =
+      accepted-listed-by-entry (k .loaded) here 0 (meets departmentFile 0 wide) (listed 0 (omega arith)) {k = 7} (omega arith) (omega arith) w
+      (inserts entry entry-meets) in
+      let same = h departmentFile departmentFile 0 2 wide k (officer-known 2 (omega arith)) wide-long in
+      let v = entry-meets departmentFile (ask 2 7 4 3) room in
+      let y =
+      listed-accepted-by-entry (k .loaded) here 2 (meets departmentFile 2 wide) (listed 2 (omega arith))
+      (subst (λ (g : ℕ × List ℕ). e .0 < apart (g .0) .length) same (e .1))
+      (subst (λ (g : ℕ × List ℕ). EntryIs (g .1) (e .0) 7 4 3) same (e .2)) v long in
+      omega (arith, y .1, outcome-on-F v long, refusals .1)
+
+  pub not-inventing : Invents f → ⊥
+  not-inventing h =
+      let k = h .known in
+      let w = meets (h .file) (h .officer) (h .buffer) in
+      let z = listing-enough (h .file) (k .loaded) w (k .user) (h .room) in
+      h .other (counted (k .loaded) here (h .officer) w z)

@@ -4,3 +4,4 @@ pub mod Meaning
 pub mod Walk
 pub mod Lends
 pub mod Turns
+pub mod Opened

@@ -2,3 +2,4 @@ pub mod Laws
 pub mod Right
 pub mod Bounds
 pub mod Theorems
+pub mod Opened

@@ -8,4 +8,8 @@ pub mod WrittenRows
 pub mod WrittenRead
 pub mod Trips
 pub mod Places
+pub mod Stops
+pub mod FailsNumbers
+pub mod FailsSections
+pub mod FailsRows
 pub mod Refusals

@@ -16,8 +16,8 @@ abbrev pub eightAt : List ℕ → ℕ → ℕ
 eightAt s at = fourAt s at + 4294967296 * fourAt s (at + 4)
 
 -- two parts that lie one after the other inside the input
-abbrev pub Inside : ℕ → ℕ → ℕ → ℕ → Type 0
-Inside start middle end all = (start ≤ middle) × (middle ≤ end) × (end ≤ all)
+abbrev pub InTurn : ℕ → ℕ → ℕ → ℕ → Type 0
+InTurn start middle end all = (start ≤ middle) × (middle ≤ end) × (end ≤ all)
 
 -- a place further on, inside the input
 abbrev pub Onward : ℕ → ℕ → ℕ → Type 0

@@ -2,7 +2,7 @@
 ghost use mathlib.Core.Path.{_≡_};
 ghost use Prim.Native.Nat.{_+_, _<_, _≤_};
 ghost use lib.ListN.{length};
-ghost use Rattle.vectors.specs.Numbers.{Inside, Onward};
+ghost use Rattle.vectors.specs.Numbers.{InTurn, Onward};
 use crate::agree::file_agrees;
 use crate::agree::listing_agrees;
 use crate::agree::request_agrees;
@@ -35,7 +35,7 @@ fn cut_short(s: &[u8]) -> Ran
 // Parts of n and m bytes from `start` on; where they do not fit, both end with the input.
 fn parts_from(s: &[u8], start: usize, n: u64, m: u64) -> Span
     requires { ⌜ start ≤ length (now s) ⌝ }
-    ensures { λ r. ⌜ Inside start (r .middle) (r .end) (length (now (s .entry))) ⌝ }
+    ensures { λ r. ⌜ InTurn start (r .middle) (r .end) (length (now (s .entry))) ⌝ }
 {
     let all = s.len();
     if ((all - start) as u64) < n {
@@ -77,7 +77,7 @@ pub fn file_at(s: &[u8], at: usize) -> Ran
     let end = r.middle;
     let outcome = wide(s[at + 2]);
     let place = two(s, at + 3);
-    let agrees = file_agrees(&s[start..end], outcome, place);
+    let agrees = file_agrees(&s[start..end], outcome + 65536 * place);
     Ran {
         agrees,
         row: 0,

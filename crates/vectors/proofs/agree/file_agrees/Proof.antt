@@ -1,9 +1,14 @@
-use mathlib.Core.Path.{_∙_}
-use borrow.Author.Tests.{eqb-true}
-use Rattle.vectors.proofs.Laws.{never, loaded-good, file-accepted, file-refused}
+use Rattle.entries.proofs.Laws.{loaded-good}
+use Rattle.vectors.proofs.Laws.{never, not-accepted}
 use borrow.Author.Needs.{needs}
 use Rattle.vectors.proofs.agree.file_agrees.Statement.{statement}
 use Rattle.vectors.proofs.agree.file_agrees.Tie as tie
+
+aestilumne-check-requires : tie.Need-aestilumne-check-requires
+aestilumne-check-requires c κs = search needs
+
+returns : tie.Need-returns
+returns c = never
 
 read-policy-requires : tie.Need-read-policy-requires
 read-policy-requires c κs = search needs
@@ -11,46 +16,42 @@ read-policy-requires c κs = search needs
 enum-told : tie.Need-enum-told
 enum-told c = search needs
 
-returns : tie.Need-returns
-returns c = never
+enum-told-2 : tie.Need-enum-told-2
+enum-told-2 c = search needs
 
 returns-2 : tie.Need-returns-2
-returns-2 c = never
+returns-2 c =
+    let read = c .before .before in
+    let tested = read .before in
+    λ e.
+    record {
+      answered = rw (tested .if1 .left) at (tested .before .aestilumne-check .ensures);
+      again = not-accepted _ (read .read-policy .ensures) (c .enum-told2 .given .1);
+    }
 
 is-file-requires : tie.Need-is-file-requires
 is-file-requires c κs =
-    loaded-good _ (c .before .before .before .before .read-policy .ensures) (c .before .before .enum-told .given .1) .sizes
-
-enum-known-how : tie.Need-enum-known-how
-enum-known-how c = search needs
-
-wide-requires : tie.Need-wide-requires
-wide-requires c κs = search needs
+    loaded-good _ (c .before .before .read-policy .ensures) (c .enum-told .given .1)
 
 returns-3 : tie.Need-returns-3
-returns-3 c = never
-
-returns-4 : tie.Need-returns-4
-returns-4 c =
-    let told = c .before .before .before in
-    λ e. file-accepted _ (told .before .before .read-policy .ensures) (told .enum-told .given .1) (c .before .before .if1 .left) (c .before .if2 .left) (c .is-file .ensures e)
-
-returns-5 : tie.Need-returns-5
-returns-5 c =
-    let told = c .before .before .before in
-    λ e. file-refused _ (told .before .before .read-policy .ensures) (told .how .given .1) (c .if3 .left ∙ c .before .wide .ensures .0) (eqb-true _ _ e)
+returns-3 c =
+    let read = c .before .before .before in
+    let tested = read .before in
+    λ e.
+    record {
+      answered = rw (tested .if1 .left) at (tested .before .aestilumne-check .ensures);
+      again = λ q. rw (read .read-policy .ensures) at (c .is-file .ensures e);
+    }
 
 pub file-agrees-spec : {M : Type 1} → statement M
 file-agrees-spec =
     tie.close
     (tie.spec
+    aestilumne-check-requires
+    returns
     read-policy-requires
     enum-told
-    returns
+    enum-told-2
     returns-2
     is-file-requires
-    enum-known-how
-    wide-requires
-    returns-3
-    returns-4
-    returns-5)
+    returns-3)

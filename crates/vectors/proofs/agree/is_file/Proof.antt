@@ -1,6 +1,6 @@
-use Rattle.vectors.proofs.Laws.{never, written-fits, written-bytes}
 use mathlib.Core.Path.{sym, _∙_}
-use lib.Seq.{length-take-le}
+use lib.Dec.{lit≤}
+use Rattle.vectors.proofs.Laws.{never, written-start}
 use borrow.Author.Needs.{needs}
 use Rattle.vectors.proofs.agree.is_file.Statement.{statement}
 use Rattle.vectors.proofs.agree.is_file.Tie as tie
@@ -20,23 +20,19 @@ enum-told c = search needs
 returns : tie.Need-returns
 returns c = never
 
-array-share-prefix-out : tie.Need-array-share-prefix-out
-array-share-prefix-out c =
-    written-fits (c .before .before .before .before .before .before .before .args .p) _ (c .before .before .before .before .write-policy .ensures) (c .before .written .given .1)
+slice-aggregate-starts : tie.Need-slice-aggregate-starts
+slice-aggregate-starts c = search needs
 
-slice-aggregate-same : tie.Need-slice-aggregate-same
-slice-aggregate-same c =
-    sym (length-take-le _ _ (written-fits (c .before .before .before .before .before .before .before .before .args .p) _ (c .before .before .before .before .before .write-policy .ensures) (c .before .before .written .given .1)))
-
-same-requires : tie.Need-same-requires
-same-requires c κs = search needs
+starts-requires : tie.Need-starts-requires
+starts-requires c κs = search needs
 
 returns-2 : tie.Need-returns-2
 returns-2 c =
-    let written = c .before .before .before .before .before .before in
+    let found = c .before .before .before in
+    let made = found .before .before .before in
+    let start = made .before .before .before in
     λ e.
-    sym (written-bytes (written .before .before .before .args .p) _ (written .write-policy .ensures) (c .before .before .before .written .given .1))
-    ∙ c .same .ensures .0 e
+    sym (written-start _ (start .pre) _ (made .write-policy .ensures) (found .written .given .1) (lit≤ tt)) ∙ c .starts .ensures e
 
 pub is-file-spec : {M : Type 1} → statement M
 is-file-spec =
@@ -47,7 +43,6 @@ is-file-spec =
     enum-known-written
     enum-told
     returns
-    array-share-prefix-out
-    slice-aggregate-same
-    same-requires
+    slice-aggregate-starts
+    starts-requires
     returns-2)
