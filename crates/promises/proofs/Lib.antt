@@ -5,3 +5,4 @@ pub mod Files
 pub mod Demand3
 pub mod Department
 pub mod Useless
+pub mod Sentences
