@@ -16,7 +16,7 @@ use Rattle.order.specs.Effects.{create}
 use Rattle.ranges.specs.declared.ModifyRow.{ModifyRow}
 use Rattle.ranges.specs.Rows.{within}
 use Rattle.hierarchy.specs.declared.Site.{Site}
-use Rattle.hierarchy.specs.Rules.{createIn, edgeIn, rowAllows, unknownRole, unknownPair, full, newRole, spoils, Fit}
+use Rattle.hierarchy.specs.Rules.{createIn, edgeIn, rowAllows, unknownRole, unknownPair, full, newRole, spoils, PairFits}
 
 -- what a row has, by kind
 module _ (kind : ℕ) (f : Relation) (a b : ℕ) (row : ModifyRow) where
@@ -84,7 +84,7 @@ module _ (s : Site) (a : ℕ) where
       second-below = has-below 64 _ b w known-second
 
 -- what the tests of number 9 ask for, where the code finds that a and b are not unknown
-pub pair-fit : (s : Site) (a b : ℕ) → unknownPair s a b ≡ false → s .roles .used < 2 ^ 64 → s .modify .count ≤ 64 → Fit s a b
+pub pair-fit : (s : Site) (a b : ℕ) → unknownPair s a b ≡ false → s .roles .used < 2 ^ 64 → s .modify .count ≤ 64 → PairFits s a b
 pair-fit s a b k w l = record { rows = l; first = first-below s a b k w; second = second-below s a b k w }
 
 -- where not all 64 roles are in use, the new number is below 64: k is the count and n the number that the code finds

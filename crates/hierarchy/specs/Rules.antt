@@ -94,7 +94,7 @@ unfoldable pub someIn : Members → ℕ → Bool
 someIn m a = any (m .count) (λ u. has (getD (m .roles) u 0) a)
 
 -- what the tests of number 9 ask of their caller: at most 64 rows, and two roles below 64
-pub record Fit (s : Site) (a b : ℕ) : Type 0 where
+pub record PairFits (s : Site) (a b : ℕ) : Type 0 where
   pub rows : s .modify .count ≤ 64
   pub first : a < 64
   pub second : b < 64

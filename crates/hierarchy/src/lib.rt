@@ -9,7 +9,7 @@ ghost use Rattle.order.specs.Order.{senior};
 ghost use Rattle.ranges.specs.Rows.{within};
 ghost use Rattle.policy.specs.Good.{Sizes};
 ghost use Rattle.policy.specs.Outcome.{first};
-ghost use Rattle.hierarchy.specs.Rules.{site, createIn, rowAllows, mayModify, unknownRole, unknownPair, spoils, rowNames, tableNames, rangesName, named, someIn, Fit, full, newRole, createRules, deleteRules, insertRules, cutRules, createRole, deleteRole, insertEdge, deleteEdge};
+ghost use Rattle.hierarchy.specs.Rules.{site, createIn, rowAllows, mayModify, unknownRole, unknownPair, spoils, rowNames, tableNames, rangesName, named, someIn, PairFits, full, newRole, createRules, deleteRules, insertRules, cutRules, createRole, deleteRole, insertEdge, deleteEdge};
 use order::Order;
 use order::create;
 use order::cut_edge;
@@ -165,7 +165,7 @@ fn is_full(site: Site) -> bool
 
 // Number 9, by kind.
 fn create_spoils(site: Site, a: usize, b: usize) -> bool
-    requires { ⌜ Fit site a b × (newRole site < 64) ⌝ }
+    requires { ⌜ PairFits site a b × (newRole site < 64) ⌝ }
     ensures { λ r. ⌜ r ≡ spoils site (createOrder (site .roles) (newRole site) a b) ⌝ }
 {
     let order = site.roles;
@@ -173,14 +173,14 @@ fn create_spoils(site: Site, a: usize, b: usize) -> bool
 }
 
 fn insert_spoils(site: Site, a: usize, b: usize) -> bool
-    requires { ⌜ Fit site a b ⌝ }
+    requires { ⌜ PairFits site a b ⌝ }
     ensures { λ r. ⌜ r ≡ spoils site (insertOrder (site .roles) a b) ⌝ }
 {
     is_spoilt(site, insert(site.roles, a, b))
 }
 
 fn cut_spoils(site: Site, a: usize, b: usize) -> bool
-    requires { ⌜ Fit site a b ⌝ }
+    requires { ⌜ PairFits site a b ⌝ }
     ensures { λ r. ⌜ r ≡ spoils site (cutEdge (site .roles) a b) ⌝ }
 {
     is_spoilt(site, cut_edge(site.roles, a, b))

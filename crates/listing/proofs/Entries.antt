@@ -79,10 +79,10 @@ pub record PlaceOf (f : ℕ → Bool) (w n : ℕ) : Type 0 where
   pub passes : f place ≡ true
   pub before : count place f ≡ n
 
-pub place-of : (f : ℕ → Bool) (w n : ℕ) → n < count w f → PlaceOf f w n
+pub place-holding : (f : ℕ → Bool) (w n : ℕ) → n < count w f → PlaceOf f w n
 unfolding count
-place-of f zero n l = absurd (not-suc-le-zero l)
-place-of f (suc w) n l = ⊎-elim (λ m. wider (place-of f w n m)) (λ m. last (f w) refl l m) (lt-or-le n (count w f))
+place-holding f zero n l = absurd (not-suc-le-zero l)
+place-holding f (suc w) n l = ⊎-elim (λ m. wider (place-holding f w n m)) (λ m. last (f w) refl l m) (lt-or-le n (count w f))
   where
     wider : PlaceOf f w n → PlaceOf f (suc w) n
     wider p = record { place = p .place; within = omega (arith, p .within); passes = p .passes; before = p .before }
@@ -92,8 +92,8 @@ place-of f (suc w) n l = ⊎-elim (λ m. wider (place-of f w n m)) (λ m. last (
     last false e h m = absurd (omega arith)
 
 -- a later entry stands for a later place
-pub later : (f : ℕ → Bool) {w n m : ℕ} (x : PlaceOf f w n) (y : PlaceOf f w m) → n < m → x .place < y .place
-later f x y l =
+pub later-place : (f : ℕ → Bool) {w n m : ℕ} (x : PlaceOf f w n) (y : PlaceOf f w m) → n < m → x .place < y .place
+later-place f x y l =
     ⊎-elim (λ h. h) (λ h. absurd (omega (arith, count-more f (y .place) (x .place) h, x .before, y .before))) (lt-or-le (x .place) (y .place))
 
 -- ---- places and requests

@@ -28,13 +28,13 @@ use Rattle.requests.proofs.Decided.{every-request, reached-good}
 use Rattle.requests.proofs.Safe.{create-safe, delete-safe, insert-safe, cut-safe}
 use Rattle.listing.specs.Listing.{accepts, kindAt, aAt, bAt, placeCount, listedAt, entryCount, entriesOf, entriesFor, EntryIs, InListing, InKinds, Earlier}
 use Rattle.listing.proofs.Laws.{entries-length, accepts-delete}
-use Rattle.listing.proofs.Entries.{count-below, entry-stands, PlaceOf, place-of, later, placeFor, place-within, place-kind, place-first, place-second, place-in-kinds, place-before}
+use Rattle.listing.proofs.Entries.{count-below, entry-stands, PlaceOf, place-holding, later-place, placeFor, place-within, place-kind, place-first, place-second, place-in-kinds, place-before}
 
 module _ (p : Policy) (o : ℕ) where
   -- each place of the listing holds a request that would be accepted
   pub holds : (n : ℕ) → n < entryCount p o → PlaceOf (listedAt p o) placeCount n
   unfolding entryCount
-  holds n l = place-of (listedAt p o) placeCount n l
+  holds n l = place-holding (listedAt p o) placeCount n l
 
   stands-at : {n : ℕ} (x : PlaceOf (listedAt p o) placeCount n) → EntryIs (entriesFor p o) n (kindAt (x .place)) (aAt (x .place)) (bAt (x .place))
   unfolding entriesFor
@@ -75,7 +75,7 @@ module _ (p : Policy) (o : ℕ) where
         ← (sym (r .first) ∙ g .stands .first),
         ← (sym (r .second) ∙ g .stands .second),
       )
-      (place-before (x .place) (y .place) (later (listedAt p o) x y l))
+      (place-before (x .place) (y .place) (later-place (listedAt p o) x y l))
 
   -- the bytes are three for each entry
   pub bytes-long : length (entriesFor p o) ≡ 3 * entryCount p o

@@ -30,12 +30,12 @@ at-set P sets a s i l new old =
     (λ t. subst P (sym (getD-set-other sets a i s 0 (eqb-false i a t))) old)
 
 -- a set that a policy may hold: its members are in use
-pub record Inside (used s : ℕ) : Type 0 where
+pub record InsideUsed (used s : ℕ) : Type 0 where
   pub inner : subset 64 s used ≡ true
   pub small : s < 2 ^ 64
 
 module _ (used count a : ℕ) (sets : List ℕ) (size : count ≤ 256) (g : GoodSets used count sets) (l : a < count) where
-  pub put-good : (s : ℕ) → Inside used s → GoodSets used count (set sets a s)
+  pub put-good : (s : ℕ) → InsideUsed used s → GoodSets used count (set sets a s)
   put-good s h =
       record {
         inner = λ i m. at-set (λ x. subset 64 x used ≡ true) sets a s i long (h .inner) (g .inner i m);
@@ -48,7 +48,7 @@ module _ (used count a : ℕ) (sets : List ℕ) (size : count ≤ 256) (g : Good
       long = omega (arith, g .long)
 
   -- the roles after: b, which is in use, is put in, or it is taken out
-  pub with-inside : (b : ℕ) → has used b ≡ true → Inside used (withRole (getD sets a 0) b)
+  pub with-inside : (b : ℕ) → has used b ≡ true → InsideUsed used (withRole (getD sets a 0) b)
   unfolding withRole
   with-inside b m =
       record {
@@ -57,7 +57,7 @@ module _ (used count a : ℕ) (sets : List ℕ) (size : count ≤ 256) (g : Good
         small = setOf-lt 64 _;
       }
 
-  pub without-inside : (b : ℕ) → Inside used (withoutRole (getD sets a 0) b)
+  pub without-inside : (b : ℕ) → InsideUsed used (withoutRole (getD sets a 0) b)
   unfolding withoutRole
   without-inside b =
       record {
@@ -97,7 +97,7 @@ module _ (p : Policy) (g : Good p) where
         sound = g .sound;
       }
 
-  module _ (a s : ℕ) (h : Inside (p .orders .roles .used) s) where
+  module _ (a s : ℕ) (h : InsideUsed (p .orders .roles .used) s) where
     pub users-good : a < p .people .users .count → Good (withUsers p (putRoles (p .people .users) a s))
     users-good l = roles-good _ _ (put-good _ _ a _ (g .sizes .users) (g .users) l s h) (g .permissions)
 
@@ -105,21 +105,21 @@ module _ (p : Policy) (g : Good p) where
     permissions-good l = roles-good _ _ (g .users) (put-good _ _ a _ (g .sizes .permissions) (g .permissions) l s h)
 
 -- ---- both lists of refusals have number 2, so that acceptance says this
-pub record Known (v : View) (b : ℕ) : Type 0 where
+pub record ViewKnown (v : View) (b : ℕ) : Type 0 where
   pub known : v .known ≡ true
   pub role : has (v .roles .used) b ≡ true
 
 module _ (v : View) (b : ℕ) where
-  known-by : (r : Refusals) → nonzero r ≡ true → condition 2 r ≡ unknown v b → first r ≡ 0 → Known v b
+  known-by : (r : Refusals) → nonzero r ≡ true → condition 2 r ≡ unknown v b → first r ≡ 0 → ViewKnown v b
   unfolding unknown
   known-by r z q e =
       let t = neg-false _ (sym q ∙ passed 2 r z e) in
       record { known = and-l _ _ t; role = and-r _ _ t }
 
-  pub assign-known : first (assignRules v b) ≡ 0 → Known v b
+  pub assign-known : first (assignRules v b) ≡ 0 → ViewKnown v b
   unfolding assignRules condition nonzero _and_ neg
   assign-known e = known-by (assignRules v b) refl refl e
 
-  pub revoke-known : first (revokeRules v b) ≡ 0 → Known v b
+  pub revoke-known : first (revokeRules v b) ≡ 0 → ViewKnown v b
   unfolding revokeRules condition nonzero _and_ neg
   revoke-known e = known-by (revokeRules v b) refl refl e

@@ -28,15 +28,15 @@ of-last (suc n) x l = rw (groupsOf, lt-ltb x 128 l)
 -- ---- how many bytes there are
 
 -- k + 1 groups hold a number below 128 to the k + 1
-pub length-of : (n k x : ℕ) → (k < n → x < 128 ^ suc k) → length (groupsOf n x) ≤ k + 1
+pub groups-length : (n k x : ℕ) → (k < n → x < 128 ^ suc k) → length (groupsOf n x) ≤ k + 1
 unfolding groupsOf
-length-of zero k x h = omega arith
-length-of (suc n) zero x h = rw (of-last (suc n) x (omega (arith, h (omega arith)))) (omega arith)
-length-of (suc n) (suc k) x h =
+groups-length zero k x h = omega arith
+groups-length (suc n) zero x h = rw (of-last (suc n) x (omega (arith, h (omega arith)))) (omega arith)
+groups-length (suc n) (suc k) x h =
     by-test (ltb x 128) (λ t. rw (of-last (suc n) x (ltb-true x 128 t)) (omega arith))
     (λ t.
     let l : 128 ≤ x = ltb-false x 128 t in
-    rw (of-more n x l) (omega (arith, length-of n k (x / 128) (λ p. omega (arith, h (omega arith), pow-succ' 128 (suc k))))))
+    rw (of-more n x l) (omega (arith, groups-length n k (x / 128) (λ p. omega (arith, h (omega arith), pow-succ' 128 (suc k))))))
 
 pub length-first : (n x : ℕ) → 1 ≤ length (groupsOf n x)
 unfolding groupsOf
@@ -55,11 +55,11 @@ bits (suc k) =
 module _ (x : ℕ) where
   pub bytes-most : length (numBytes x) ≤ 10
   unfolding numBytes
-  bytes-most = length-of 9 9 x (λ p. absurd (omega arith))
+  bytes-most = groups-length 9 9 x (λ p. absurd (omega arith))
 
   pub bytes-below : (k : ℕ) → x < 2 ^ (7 * suc k) → length (numBytes x) ≤ suc k
   unfolding numBytes
-  bytes-below k h = omega (arith, length-of 9 k x (λ p. rw (bits (suc k)) at h))
+  bytes-below k h = omega (arith, groups-length 9 k x (λ p. rw (bits (suc k)) at h))
 
 -- ---- what is left of x's bytes, of which some stand from `at` to i: those of v
 pub record Left (x at v i : ℕ) : Type 0 where

@@ -17,7 +17,7 @@ use Rattle.number.proofs.Parts.{Stands, stands-byte, stands-inside, sta
 use Rattle.number.proofs.Stores.{sets-stands}
 use Rattle.number.proofs.Values.{byte-next, value-low, value-first, value-pos, value-one, value-none}
 use Rattle.number.proofs.Numbers.{Number, number-is, num-found, num-next}
-use Rattle.number.proofs.Bytes.{of-more, of-last, length-of}
+use Rattle.number.proofs.Bytes.{of-more, of-last, groups-length}
 
 -- ---- the bytes of x, where they stand, are a number whose value is x
 record Written (m x : ℕ) (s : List ℕ) (at : ℕ) : Type 0 where
@@ -151,4 +151,4 @@ module _ (s : List ℕ) (small : (k : ℕ) → getD s k 0 < 256) where
 -- Shortest form: groups of the same value are no fewer than the number's own bytes.
 pub shortest : (s : List ℕ) (at n : ℕ) → length (numBytes (valueOf s at (suc n))) ≤ suc n
 unfolding numBytes
-shortest s at n = omega (arith, length-of 9 n (valueOf s at (suc n)) (λ p. value-low s at (suc n)))
+shortest s at n = omega (arith, groups-length 9 n (valueOf s at (suc n)) (λ p. value-low s at (suc n)))

@@ -38,9 +38,9 @@ edge-means f used a b l h e =
     }
 
 -- two numbers that are neither equal nor comparable
-pub apart : (f : Relation) (a b : ℕ) → comparable f a b ≡ false → atLeast f b a ≡ false
+pub apart-not-below : (f : Relation) (a b : ℕ) → comparable f a b ≡ false → atLeast f b a ≡ false
 unfolding comparable atLeast
-apart f a b e =
+apart-not-below f a b e =
     or-fails _ _ (ne-eqb b a (λ q. eqb-false a b (or-fails-l _ _ e) (sym q))) (or-fails-r _ _ (or-fails-r _ _ e))
 
 module _ (f : Relation) (h : Strict f) where
@@ -72,7 +72,7 @@ module _ (f : Relation) (h : Strict f) where
   insert-strict a b e =
       record {
         irreflexive = λ x. not-so _ (λ s. ⊎-elim (λ (u : f x x ≡ true). clash u (h .irreflexive x))
-            (λ (u : (atLeast f x a and atLeast f b x) ≡ true). clash (at-least-trans b x a (and-r _ _ u) (and-l _ _ u)) (apart f a b e)) (or-cases _ _ s));
+            (λ (u : (atLeast f x a and atLeast f b x) ≡ true). clash (at-least-trans b x a (and-r _ _ u) (and-l _ _ u)) (apart-not-below f a b e)) (or-cases _ _ s));
         transitive = λ x y z s t.
             ⊎-elim
             (λ (u : f x y ≡ true). ⊎-elim (λ (v : f y z ≡ true). or-l _ _ (h .transitive x y z u v))

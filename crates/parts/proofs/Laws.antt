@@ -45,15 +45,15 @@ module _ (k : ℕ) where
   table-is h l = and-i _ _ (le-leb 1 k h) (le-leb k 5 l)
 
 -- ---- a table starts before it ends, within the input
-pub record Inside (s : List ℕ) (start end : ℕ) : Type 0 where
+pub record InsideInput (s : List ℕ) (start end : ℕ) : Type 0 where
   pub some : start < end
   pub within : end ≤ length s
 
-pub part-inside : {s : List ℕ} {p : Places} (k : ℕ) → Placed s p → Inside s (startOf p k) (endOf p k)
+pub part-inside : {s : List ℕ} {p : Places} (k : ℕ) → Placed s p → InsideInput s (startOf p k) (endOf p k)
 unfolding startOf endOf
 part-inside {s} {p} k w = by (eqb k 1) (eqb k 2) (eqb k 3) (eqb k 4)
   where
-    by : (a b c d : Bool) → Inside s (pick a (p .assign) (pick b (p .revoke) (pick c (p .assignp) (pick d (p .revokep) (p .modify)))))
+    by : (a b c d : Bool) → InsideInput s (pick a (p .assign) (pick b (p .revoke) (pick c (p .assignp) (pick d (p .revokep) (p .modify)))))
         (pick a (p .revoke) (pick b (p .assignp) (pick c (p .revokep) (pick d (p .modify) (p .end)))))
     by true b c d = record { some = w .assign; within = omega arith }
     by false true c d = record { some = w .revoke; within = omega arith }
@@ -61,7 +61,7 @@ part-inside {s} {p} k w = by (eqb k 1) (eqb k 2) (eqb k 3) (eqb k 4)
     by false false false true = record { some = w .revokep; within = omega arith }
     by false false false false = record { some = w .modify; within = w .end }
 
-pub file-inside : {s : List ℕ} {e : ℕ} {f : File} (k : ℕ) → fileAt s ≡ go e f → Inside s (startOf (f .places) k) (endOf (f .places) k)
+pub file-inside : {s : List ℕ} {e : ℕ} {f : File} (k : ℕ) → fileAt s ≡ go e f → InsideInput s (startOf (f .places) k) (endOf (f .places) k)
 file-inside {s} k q = part-inside k (file-placed s q)
 
 -- ---- a part that is found: the file was accepted

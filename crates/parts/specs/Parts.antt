@@ -43,7 +43,8 @@ bytesOf s (Refused c p) = []
 unfoldable pub partBytes : List ℕ → ℕ → List ℕ
 partBytes s k = bytesOf s (partAt s k)
 
--- a file's refusal as a part's
+-- A file's refusal as a part's. It is asked of no other file; a function has an answer for every `How`, so an accepted one gets a number that no
+-- refusal has.
 abbrev pub refusalOf : how.How → Part
 refusalOf how.the-variants.Accepted = Refused 0 0
 refusalOf (how.the-variants.Refused c p) = Refused c p

@@ -1,7 +1,6 @@
 -- The two policies of the P cases as files: their bytes, that they are read as these policies, by computation, and what a check answers.
 -- Assumes nothing.
 use mathlib.Core.Path.{_≡_, refl, ap}
-use mathlib.Core.List.{List, [], _∷_}
 use Prim.Native.Nat.{ℕ}
 use Rattle.requests.specs.Examples.{F, chain}
 use Rattle.reading.specs.declared.How.the-variants.{Accepted}
@@ -12,16 +11,12 @@ use Rattle.reading.specs.File.{readPolicy}
 use Rattle.layout.specs.Layout.{policyBytes}
 use Rattle.answers.specs.Answers.{fields, apart}
 use Rattle.entries.specs.Entries.{CheckOf}
+use Rattle.promises.specs.Department.{departmentFile, chainFile}
 use Rattle.promises.proofs.Others.{check-accepts}
 
--- ---- F: the bytes of examples/F.policy
+-- ---- F
 
-abbrev pub departmentFile : List ℕ
-departmentFile =
-    1 ∷ 255 ∷ 15 ∷ 0 ∷ 1 ∷ 3 ∷ 7 ∷ 7 ∷ 31 ∷ 3 ∷ 67 ∷ 67 ∷ 195 ∷ 3 ∷ 255 ∷ 7 ∷ 7 ∷ 6 ∷ 4 ∷ 0 ∷ 3 ∷ 0 ∷ 4 ∷ 0 ∷ 2 ∷ 2 ∷ 0 ∷ 0
-    ∷ 1 ∷ 2 ∷ 2 ∷ 5 ∷ 1 ∷ 2 ∷ 0 ∷ 0 ∷ 0 ∷ 0 ∷ 3 ∷ 2 ∷ 2 ∷ 5 ∷ 2 ∷ 6 ∷ 9 ∷ 1 ∷ 1 ∷ 10 ∷ []
-
--- they are the file of the F that the P cases start from
+-- the bytes of examples/F.policy are the file of the F that the P cases start from
 pub department-file : policyBytes F ≡ departmentFile
 unfolding F writing-opened
 department-file = refl
@@ -32,9 +27,6 @@ unfolding F reading-opened
 department-loads = refl
 
 -- ---- case 13's chain, with rows (0, 2) and (1, 4)
-
-abbrev pub chainFile : List ℕ
-chainFile = 1 ∷ 31 ∷ 0 ∷ 1 ∷ 3 ∷ 7 ∷ 15 ∷ 1 ∷ 0 ∷ 1 ∷ 0 ∷ 1 ∷ 0 ∷ 0 ∷ 0 ∷ 0 ∷ 0 ∷ 2 ∷ 0 ∷ 0 ∷ 2 ∷ 0 ∷ 1 ∷ 4 ∷ []
 
 pub chain-file : policyBytes chain ≡ chainFile
 unfolding chain writing-opened

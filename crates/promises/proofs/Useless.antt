@@ -26,11 +26,12 @@ use Rattle.answers.proofs.Laws.{outcome-of}
 use Rattle.entries.specs.Entries.{RequestOf, requestFields, requestBytes}
 use Rattle.entries.specs.Steps.{here}
 use Rattle.entries.proofs.Promised.{request-done, byte-in}
+use Rattle.promises.specs.Department.{departmentFile}
 use Rattle.promises.specs.Versions.{CheckVersion, RequestVersion, ListingVersion, MeetsCheck, MeetsRequest, MeetsListing, Known, RefusesFiles, RefusesRequests, AcceptsRequests, Copies, EchoesLater, SameListing, Invents}
 use Rattle.promises.proofs.Demand2.{outcome-decided, accepted-file, accepted-policy}
 use Rattle.promises.proofs.Others.{check-accepts, listing-enough}
 use Rattle.promises.proofs.Demand3.{counted, listed-accepted-by-entry, accepted-listed-by-entry}
-use Rattle.promises.proofs.Department.{departmentFile, department-loads}
+use Rattle.promises.proofs.Department.{department-loads}
 
 -- ---- the witness: what u0 asks of F, and what comes of it, by computation
 

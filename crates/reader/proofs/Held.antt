@@ -46,8 +46,8 @@ use Rattle.reader.proofs.Reader.Laws as T′
 abbrev pub B : Lfts 1 → RattleType
 B κs = T.the-row (namedLft 1 0 tt κs)
 
-abbrev pub inside : Lft → NamedLft
-inside κ = record { mir = erased; lft = κ }
+abbrev pub inside-lft : Lft → NamedLft
+inside-lft κ = record { mir = erased; lft = κ }
 
 abbrev pub view : RefT (List ℕ) → Val
 view s = sliceVal (s .ptr) (length (s .now))

@@ -34,7 +34,7 @@ use denote.Triple.Spec.{tripleOf}
 use denote.Triple.Table.{cited}
 use Rattle.reader.specs.Standing.{standing}
 use Rattle.reader.specs.declared.Reader.{Reader}
-use Rattle.reader.proofs.Held.{B, inside, view, frames, closes}
+use Rattle.reader.proofs.Held.{B, inside-lft, view, frames, closes}
 use Rattle.reader.proofs.Shapes.{Section, plainly, over, of-bytes, of-reader, Plainly, Over, making}
 use Rattle.ranges.proofs.Walk.{Bound, After, ends-with, calls-met}
 use Rattle.reader.proofs.Reader as T
@@ -87,7 +87,7 @@ module _ {M : Type 1} (𝓤 : URA M) (H : Heap 𝓤) (A : Atoms 𝓤) (W : Given
         calls-met ! fm stand.ended (stand.clauses 𝓤 H A mem run) stands first-0 (λ r. r ≡ standing s i) (λ r ws. id⊢ 𝓤 _)
         (and-then ! (load ! (from ! (stop !)) (look ! 5 refl)) (and-then ! (load ! (from ! (stop !)) (look ! 3 refl)) (no-more !))) (λ v r e.
         -- [what the reader owns; the token; _3; …; i; …; s; …; _0; …]
-        peeks ! (B (κ, tt)) (Is (B (κ, tt))) (shows 𝓤 H A (B (κ, tt))) r (v ∷ []) (λ is. land ! (from ! (stop !)) (init ! 2 refl (LL.lawful (T.the-type (inside κ)) (T′.the-laws (inside κ)) 𝓤 H A W .typed r _ is .0)) $
+        peeks ! (B (κ, tt)) (Is (B (κ, tt))) (shows 𝓤 H A (B (κ, tt))) r (v ∷ []) (λ is. land ! (from ! (stop !)) (init ! 2 refl (LL.lawful (T.the-type (inside-lft κ)) (T′.the-laws (inside-lft κ)) 𝓤 H A W .typed r _ is .0)) $
         use2 W (raw (Over S 𝓤 H A .pre (to-0 r v))) (goes-0 r v) $
         calls-met ! fm (over S) (of-reader S 𝓤) known (to-0 r v) (λ o. o ≡ S .what (now (r .bytes)) (r .at) tt) (λ o ws. id⊢ 𝓤 _)
         (and-then ! (load ! (from ! (stop !)) (look ! 1 refl)) (no-more !)) (λ u o e′.
@@ -147,7 +147,7 @@ module _ {M : Type 1} (𝓤 : URA M) (H : Heap 𝓤) (A : Atoms 𝓤) (W : Given
         calls-met ! fm stand.ended (stand.clauses 𝓤 H A mem run) stands first-1 (λ r. r ≡ standing s i) (λ r ws. id⊢ 𝓤 _)
         (and-then ! (load ! (from ! (stop !)) (look ! 7 refl)) (and-then ! (load ! (from ! (stop !)) (look ! 5 refl)) (no-more !))) (λ v r e.
         -- [what the reader owns; the token; _4; …; x; …; i; …; s; …; _0; …]
-        peeks ! (B (κ, tt)) (Is (B (κ, tt))) (shows 𝓤 H A (B (κ, tt))) r (v ∷ []) (λ is. land ! (from ! (stop !)) (init ! 2 refl (LL.lawful (T.the-type (inside κ)) (T′.the-laws (inside κ)) 𝓤 H A W .typed r _ is .0)) $
+        peeks ! (B (κ, tt)) (Is (B (κ, tt))) (shows 𝓤 H A (B (κ, tt))) r (v ∷ []) (λ is. land ! (from ! (stop !)) (init ! 2 refl (LL.lawful (T.the-type (inside-lft κ)) (T′.the-laws (inside-lft κ)) 𝓤 H A W .typed r _ is .0)) $
         use2 W (raw (Over S 𝓤 H A .pre (to-1 r v))) (goes-1 below-x r v) $
         calls-met ! fm (over S) (of-reader S 𝓤) known (to-1 r v) (λ o. o ≡ S .what (now (r .bytes)) (r .at) (x, tt)) (λ o ws. id⊢ 𝓤 _)
         (and-then ! (load ! (from ! (stop !)) (look ! 1 refl)) (and-then ! (load ! (from ! (stop !)) (look ! 3 refl)) (no-more !))) (λ u o e′.
@@ -207,7 +207,7 @@ module _ {M : Type 1} (𝓤 : URA M) (H : Heap 𝓤) (A : Atoms 𝓤) (W : Given
         calls-met ! fm stand.ended (stand.clauses 𝓤 H A mem run) stands first-2 (λ r. r ≡ standing s i) (λ r ws. id⊢ 𝓤 _)
         (and-then ! (load ! (from ! (stop !)) (look ! 9 refl)) (and-then ! (load ! (from ! (stop !)) (look ! 7 refl)) (no-more !))) (λ v r e.
         -- [what the reader owns; the token; _5; …; y; …; x; …; i; …; s; …; _0; …]
-        peeks ! (B (κ, tt)) (Is (B (κ, tt))) (shows 𝓤 H A (B (κ, tt))) r (v ∷ []) (λ is. land ! (from ! (stop !)) (init ! 2 refl (LL.lawful (T.the-type (inside κ)) (T′.the-laws (inside κ)) 𝓤 H A W .typed r _ is .0)) $
+        peeks ! (B (κ, tt)) (Is (B (κ, tt))) (shows 𝓤 H A (B (κ, tt))) r (v ∷ []) (λ is. land ! (from ! (stop !)) (init ! 2 refl (LL.lawful (T.the-type (inside-lft κ)) (T′.the-laws (inside-lft κ)) 𝓤 H A W .typed r _ is .0)) $
         use2 W (raw (Over S 𝓤 H A .pre (to-2 r v))) (goes-2 below-x below-y r v) $
         calls-met ! fm (over S) (of-reader S 𝓤) known (to-2 r v) (λ o. o ≡ S .what (now (r .bytes)) (r .at) (x, (y, tt))) (λ o ws. id⊢ 𝓤 _)
         (and-then ! (load ! (from ! (stop !)) (look ! 1 refl)) (and-then ! (load ! (from ! (stop !)) (look ! 5 refl)) (and-then ! (load ! (from ! (stop !)) (look ! 3 refl)) (no-more !)))) (λ u o e′.
@@ -267,7 +267,7 @@ module _ {M : Type 1} (𝓤 : URA M) (H : Heap 𝓤) (A : Atoms 𝓤) (W : Given
         calls-met ! fm stand.ended (stand.clauses 𝓤 H A mem run) stands first-3 (λ r. r ≡ standing s i) (λ r ws. id⊢ 𝓤 _)
         (and-then ! (load ! (from ! (stop !)) (look ! 11 refl)) (and-then ! (load ! (from ! (stop !)) (look ! 9 refl)) (no-more !))) (λ v r e.
         -- [what the reader owns; the token; _6; …; z; …; y; …; x; …; i; …; s; …; _0; …]
-        peeks ! (B (κ, tt)) (Is (B (κ, tt))) (shows 𝓤 H A (B (κ, tt))) r (v ∷ []) (λ is. land ! (from ! (stop !)) (init ! 2 refl (LL.lawful (T.the-type (inside κ)) (T′.the-laws (inside κ)) 𝓤 H A W .typed r _ is .0)) $
+        peeks ! (B (κ, tt)) (Is (B (κ, tt))) (shows 𝓤 H A (B (κ, tt))) r (v ∷ []) (λ is. land ! (from ! (stop !)) (init ! 2 refl (LL.lawful (T.the-type (inside-lft κ)) (T′.the-laws (inside-lft κ)) 𝓤 H A W .typed r _ is .0)) $
         use2 W (raw (Over S 𝓤 H A .pre (to-3 r v))) (goes-3 below-x below-y r v) $
         calls-met ! fm (over S) (of-reader S 𝓤) known (to-3 r v) (λ o. o ≡ S .what (now (r .bytes)) (r .at) (x, (y, (z, tt)))) (λ o ws. id⊢ 𝓤 _)
         (and-then ! (load ! (from ! (stop !)) (look ! 1 refl)) (and-then ! (load ! (from ! (stop !)) (look ! 7 refl)) (and-then ! (load ! (from ! (stop !)) (look ! 5 refl)) (and-then ! (load ! (from ! (stop !)) (look ! 3 refl)) (no-more !))))) (λ u o e′.

@@ -125,6 +125,8 @@ noFile c p = record { how = Refused c p; policy = emptyPolicy; places = noPlaces
 abbrev pub whole : Front → Rest → FileRead
 whole f r = record { how = Accepted; policy = file f r .policy; places = r .places }
 
+-- Of a part that was refused. It is asked of no other; a function has an answer for every `Ended`, so one that was not refused gets a number that
+-- no refusal has.
 abbrev pub stopped : Ended → FileRead
 stopped (At e) = noFile 0 0
 stopped (Stopped c p) = noFile c p

@@ -16,8 +16,8 @@ use Rattle.number.proofs.Tested.{tested-written}
 use Rattle.sections.specs.Numbers.{countAt}
 
 -- ---- the first i of a list, and none past them
-unfoldable pub upTo : {B : Type 0} → B → List B → ℕ → List B
-upTo none l i = take i l ++ replicate (length l - i) none
+unfoldable pub filled-to : {B : Type 0} → B → List B → ℕ → List B
+filled-to none l i = take i l ++ replicate (length l - i) none
 
 module _ {B : Type 0} (none : B) where
   -- past the end of a list of them there is none either
@@ -27,52 +27,52 @@ module _ {B : Type 0} (none : B) where
       (λ t. List·getD-eq-default (replicate n none) none {n = j} (omega (arith, ltb-false j n t, length-replicate n none)))
 
   module _ (l : List B) where
-    up-long : (i : ℕ) → i ≤ length l → length (upTo none l i) ≡ length l
-    unfolding upTo
+    up-long : (i : ℕ) → i ≤ length l → length (filled-to none l i) ≡ length l
+    unfolding filled-to
     up-long i h =
         length-append (take i l) (replicate (length l - i) none)
         ∙ omega (arith, length-take-le i l h, length-replicate (length l - i) none)
 
-    up-done : (i k : ℕ) → i ≤ length l → k < i → getD (upTo none l i) k none ≡ getD l k none
-    unfolding upTo
+    up-done : (i k : ℕ) → i ≤ length l → k < i → getD (filled-to none l i) k none ≡ getD l k none
+    unfolding filled-to
     up-done i k h b =
         List·getD-append (take i l) (replicate (length l - i) none) none k (omega (arith, length-take-le i l h)) ∙ getD-take i l k none b
 
-    up-rest : (i k : ℕ) → i ≤ length l → i ≤ k → getD (upTo none l i) k none ≡ none
-    unfolding upTo
+    up-rest : (i k : ℕ) → i ≤ length l → i ≤ k → getD (filled-to none l i) k none ≡ none
+    unfolding filled-to
     up-rest i k h b =
         let e : length (take i l) + (k - i) ≡ k = omega (arith, length-take-le i l h) in
         rw (← e) (getD-append-add (take i l) (replicate (length l - i) none) (k - i) none ∙ getD-none (length l - i) (k - i))
 
-    pub up-none : upTo none l 0 ≡ replicate (length l) none
-    unfolding upTo
+    pub up-none : filled-to none l 0 ≡ replicate (length l) none
+    unfolding filled-to
     up-none = let e : length l - 0 ≡ length l = omega arith in rw e
 
     -- the next is set
-    pub up-set : (i : ℕ) → i < length l → set (upTo none l i) i (getD l i none) ≡ upTo none l (i + 1)
+    pub up-set : (i : ℕ) → i < length l → set (filled-to none l i) i (getD l i none) ≡ filled-to none l (i + 1)
     up-set i h =
         let long = up-long i (omega arith) in
-        ext-getD none (set (upTo none l i) i (getD l i none)) (upTo none l (i + 1))
-        (length-set (upTo none l i) i (getD l i none) ∙ long ∙ sym (up-long (i + 1) (omega arith)))
+        ext-getD none (set (filled-to none l i) i (getD l i none)) (filled-to none l (i + 1))
+        (length-set (filled-to none l i) i (getD l i none) ∙ long ∙ sym (up-long (i + 1) (omega arith)))
         (λ k b. by-test (eqb k i)
-        (λ t. rw (eqb-true k i t) (getD-set-same (upTo none l i) i (getD l i none) none (omega arith) ∙ sym (up-done (i + 1) i (omega arith) (omega arith))))
-        (λ t. getD-set-other (upTo none l i) i k (getD l i none) none (eqb-false k i t)
+        (λ t. rw (eqb-true k i t) (getD-set-same (filled-to none l i) i (getD l i none) none (omega arith) ∙ sym (up-done (i + 1) i (omega arith) (omega arith))))
+        (λ t. getD-set-other (filled-to none l i) i k (getD l i none) none (eqb-false k i t)
         ∙ by-test (ltb k i) (λ u. up-done i k (omega arith) (ltb-true k i u) ∙ sym (up-done (i + 1) k (omega arith) (omega (arith, ltb-true k i u))))
         (λ u. up-rest i k (omega arith) (ltb-false k i u) ∙ sym (up-rest (i + 1) k (omega arith) (omega (arith, ltb-false k i u, eqb-false k i t))))))
 
     -- the next stays, where it is none
-    pub up-skip : (i : ℕ) → i < length l → getD l i none ≡ none → upTo none l i ≡ upTo none l (i + 1)
+    pub up-skip : (i : ℕ) → i < length l → getD l i none ≡ none → filled-to none l i ≡ filled-to none l (i + 1)
     up-skip i h e =
-        ext-getD none (upTo none l i) (upTo none l (i + 1)) (up-long i (omega arith) ∙ sym (up-long (i + 1) (omega arith)))
+        ext-getD none (filled-to none l i) (filled-to none l (i + 1)) (up-long i (omega arith) ∙ sym (up-long (i + 1) (omega arith)))
         (λ k b. by-test (ltb k i) (λ u. up-done i k (omega arith) (ltb-true k i u) ∙ sym (up-done (i + 1) k (omega arith) (omega (arith, ltb-true k i u))))
         (λ u. up-rest i k (omega arith) (ltb-false k i u)
         ∙ by-test (eqb k i) (λ t. rw (eqb-true k i t) (sym (up-done (i + 1) i (omega arith) (omega arith) ∙ e)))
         (λ t. sym (up-rest (i + 1) k (omega arith) (omega (arith, ltb-false k i u, eqb-false k i t))))))
 
     -- all of it, where none stands past them
-    pub up-all : (n : ℕ) → n ≤ length l → ((k : ℕ) → n ≤ k → getD l k none ≡ none) → upTo none l n ≡ l
+    pub up-all : (n : ℕ) → n ≤ length l → ((k : ℕ) → n ≤ k → getD l k none ≡ none) → filled-to none l n ≡ l
     up-all n h rest =
-        ext-getD none (upTo none l n) l (up-long n h)
+        ext-getD none (filled-to none l n) l (up-long n h)
         (λ k b. by-test (ltb k n) (λ u. up-done n k h (ltb-true k n u)) (λ u. up-rest n k h (ltb-false k n u) ∙ sym (rest k (ltb-false k n u))))
 
 -- ---- Where each step reads what was written for it, and goes from one state to the next, the run reads the whole. st i is the state after i steps.

@@ -24,7 +24,7 @@ use Rattle.rows.specs.Rows.{row, rangeAt, conditionAt, tableRowAt, table, rowSt
 use Rattle.rows.proofs.Laws.{row-in, range-in}
 use Rattle.layout.specs.Layout.{endsBytes, conditionBytes, rowBytes, modifyBytes, rowsBytes, rangesBytes}
 use Rattle.layout.proofs.Lengths.{ends-of, row-of, condition-in, condition-out}
-use Rattle.trips.proofs.Fill.{upTo, up-none, up-set, up-all, counted-read}
+use Rattle.trips.proofs.Fill.{filled-to, up-none, up-set, up-all, counted-read}
 use Rattle.trips.proofs.ReadSections.{set-read, count-read, member-read}
 
 -- ---- three runs of bytes, one after the other
@@ -100,7 +100,7 @@ module _ (s : List ℕ) (roles admins : ℕ) (u : roles < 2 ^ 64) (v : admins < 
   -- ---- a table of rows, which need and bar nothing where they are not of a can-assign table
   module _ (assign : Bool) (t : Table) (size : t .count ≤ 64) (g : GoodTable roles admins t) (plain : assign ≡ false → Unconditional t) where
     table-state : ℕ → Table
-    table-state i = table (t .count) (upTo emptyRow (t .rows) i)
+    table-state i = table (t .count) (filled-to emptyRow (t .rows) i)
 
     row-bytes : ℕ → List ℕ
     row-bytes i = rowBytes assign (getD (t .rows) i emptyRow)
@@ -125,7 +125,7 @@ module _ (s : List ℕ) (roles admins : ℕ) (u : roles < 2 ^ 64) (v : admins < 
   -- ---- the can-modify table
   module _ (m : Ranges) (size : m .count ≤ 64) (g : GoodRanges roles admins m) where
     ranges-state : ℕ → Ranges
-    ranges-state i = ranges (m .count) (upTo noRow (m .rows) i)
+    ranges-state i = ranges (m .count) (filled-to noRow (m .rows) i)
 
     range-bytes : ℕ → List ℕ
     range-bytes i = modifyBytes (rowAt (m .rows) i)

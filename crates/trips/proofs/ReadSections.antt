@@ -30,7 +30,7 @@ use Rattle.sections.specs.Sections.{allBelow, juniorStep, juniorsAt, orderAt, p
 use Rattle.sections.proofs.Laws.{junior-in, junior-skip}
 use Rattle.layout.specs.Layout.{juniorsBytes, orderBytes, userBytes, usersBytes, permissionsBytes}
 use Rattle.layout.proofs.Lengths.{juniors-in, juniors-out}
-use Rattle.trips.proofs.Fill.{upTo, up-none, up-set, up-skip, up-all, run-states, counted-read}
+use Rattle.trips.proofs.Fill.{filled-to, up-none, up-set, up-skip, up-all, run-states, counted-read}
 
 -- ---- a number that has to pass a test
 module _ (s : List ℕ) {at : ℕ} (x : ℕ) (h : x < 2 ^ 64) (w : Stands s at (numBytes x)) where
@@ -49,7 +49,7 @@ module _ (s : List ℕ) {at : ℕ} (x : ℕ) (h : x < 2 ^ 64) (w : Stands s at (
 -- ---- permissions
 module _ (s : List ℕ) (roles : ℕ) (m : Members) (size : m .count ≤ 256) (g : GoodSets roles (m .count) (m .roles)) where
   permission-state : ℕ → Members
-  permission-state i = members (m .count) (upTo 0 (m .roles) i)
+  permission-state i = members (m .count) (filled-to 0 (m .roles) i)
 
   permission-reads : (i at : ℕ) → i < m .count → Stands s at (numBytes (getD (m .roles) i 0))
       → memberStep s roles i at (permission-state i) ≡ go (at + length (numBytes (getD (m .roles) i 0))) (permission-state (i + 1))
@@ -70,7 +70,7 @@ module _ (s : List ℕ) (roles : ℕ) (m : Members) (size : m .count ≤ 256) (g
 module _ (s : List ℕ) (roles admins : ℕ) (p : People) (size : p .users .count ≤ 256)
     (g : GoodSets roles (p .users .count) (p .users .roles)) (o : GoodSets admins (p .users .count) (p .offices)) where
   user-state : ℕ → People
-  user-state i = people (p .users .count) (upTo 0 (p .users .roles) i) (upTo 0 (p .offices) i)
+  user-state i = people (p .users .count) (filled-to 0 (p .users .roles) i) (filled-to 0 (p .offices) i)
 
   user-bytes : ℕ → List ℕ
   user-bytes i = userBytes (getD (p .users .roles) i 0) (getD (p .offices) i 0)
@@ -109,18 +109,18 @@ module _ (s : List ℕ) (w : ℕ) (o : Order) (g : GoodOrder w o) (wide : w ≤ 
   inner a = subset-of 64 (getD (o .juniors) a 0) (o .used) (λ n t. g .in-use .below a n t)
 
   junior-reads : (i at : ℕ) → i < 64 → Stands s at (junior-bytes i)
-      → juniorStep s (o .used) i at (upTo 0 (o .juniors) i) ≡ go (at + length (junior-bytes i)) (upTo 0 (o .juniors) (i + 1))
+      → juniorStep s (o .used) i at (filled-to 0 (o .juniors) i) ≡ go (at + length (junior-bytes i)) (filled-to 0 (o .juniors) (i + 1))
   unfolding junior-bytes senior
   junior-reads i at h v =
       by-test (has (o .used) i)
       (λ t.
       let b = juniors-in (o .used) i x t in
-      junior-in s (o .used) i at (upTo 0 (o .juniors) i) t (set-read s x (g .small i) (rw b at v) (o .used) (inner i))
+      junior-in s (o .used) i at (filled-to 0 (o .juniors) i) t (set-read s x (g .small i) (rw b at v) (o .used) (inner i))
       ∙ rw (b, up-set 0 (o .juniors) i (omega (arith, g .rows))))
       (λ t.
       let b = juniors-out (o .used) i x t in
       let e : at + 0 ≡ at = omega arith in
-      junior-skip s (o .used) i at (upTo 0 (o .juniors) i) t
+      junior-skip s (o .used) i at (filled-to 0 (o .juniors) i) t
       ∙ rw (b, e, up-skip 0 (o .juniors) i (omega (arith, g .rows)) (none-is-empty 64 x (g .small i) (λ n l. unused-free i (g .in-use) t .over n))))
     where
       x : ℕ
@@ -137,7 +137,7 @@ module _ (s : List ℕ) (w : ℕ) (o : Order) (g : GoodOrder w o) (wide : w ≤ 
       let a = numBytes (o .used) in
       let r = each junior-bytes 64 0 in
       let u = set-read s (o .used) (lt-of-lt-of-le (g .width) (pow-mono wide)) (stands-first a r v) (allBelow w) numbered in
-      let j = run-states (juniorStep s (o .used)) junior-bytes (upTo 0 (o .juniors)) s 64 junior-reads 64 0 (at + length a) (omega arith) (stands-second a r v) in
+      let j = run-states (juniorStep s (o .used)) junior-bytes (filled-to 0 (o .juniors)) s 64 junior-reads 64 0 (at + length a) (omega arith) (stands-second a r v) in
       let b = up-none 0 (o .juniors) in
       let long = g .rows in
       let e = up-all 0 (o .juniors) 64 (omega arith) (λ k l. List·getD-eq-default (o .juniors) 0 {n = k} (omega arith)) in

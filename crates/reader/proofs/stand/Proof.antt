@@ -32,7 +32,7 @@ use denote.Triple.Spec.{tripleOf}
 use denote.Triple.Table.{cited}
 use Rattle.reader.specs.Standing.{standing}
 use Rattle.reader.specs.declared.Reader.{Reader}
-use Rattle.reader.proofs.Held.{B, inside, view, frames, closes}
+use Rattle.reader.proofs.Held.{B, inside-lft, view, frames, closes}
 use Rattle.ranges.proofs.Walk.{Bound, After, ends-with, calls-met}
 use Rattle.reader.proofs.Reader as T
 use Rattle.reader.proofs.Reader.Laws as T′
@@ -91,7 +91,7 @@ module _ {M : Type 1} (𝓤 : URA M) (H : Heap 𝓤) (A : Atoms 𝓤) (W : Given
         move ! (8 ∷ 9 ∷ []) $ use2 W (raw (Start 𝓤 H A mem run .pre to-start)) starts $
         calls-met ! fm start.ended (start.clauses 𝓤 H A mem run) known-start to-start (λ r. r ≡ standing s 0) (λ r ws. id⊢ 𝓤 _) (and-then ! (load ! (from ! (stop !)) (look ! 5 refl)) (no-more !)) (λ v r e.
         -- [what the reader owns; the token; _3; …; i; …; s; …; _0; …]
-        peeks ! (B (κ, tt)) (Is (B (κ, tt))) (shows 𝓤 H A (B (κ, tt))) r (v ∷ []) (λ is. land ! (from ! (stop !)) (init ! 2 refl (LL.lawful (T.the-type (inside κ)) (T′.the-laws (inside κ)) 𝓤 H A W .typed r _ is .0)) $
+        peeks ! (B (κ, tt)) (Is (B (κ, tt))) (shows 𝓤 H A (B (κ, tt))) r (v ∷ []) (λ is. land ! (from ! (stop !)) (init ! 2 refl (LL.lawful (T.the-type (inside-lft κ)) (T′.the-laws (inside-lft κ)) 𝓤 H A W .typed r _ is .0)) $
         use2 W (raw (Moved 𝓤 H A mem run .pre (to-moved r v))) (moves fits r v) $
         calls-met ! fm moved.ended (moved.clauses 𝓤 H A mem run) known-moved (to-moved r v) (λ o. o ≡ standing (r .bytes) i) (λ o ws. id⊢ 𝓤 _)
         (and-then ! (load ! (from ! (stop !)) (look ! 1 refl)) (and-then ! (load ! (from ! (stop !)) (look ! 3 refl)) (no-more !))) (λ u o e′.
