@@ -20,7 +20,7 @@ use Rattle.trips.proofs.WrittenRead.{part-of-read}
 use Rattle.listing.specs.Listing.{entryCount, entriesFor}
 use Rattle.listing.proofs.Promised.{enough, bytes-long}
 use Rattle.answers.specs.Answers.{fields, apart, ofReply}
-use Rattle.answers.proofs.Laws.{outcome-of, length-of}
+use Rattle.answers.proofs.Laws.{outcome-of, place-of, length-of}
 use Rattle.entries.specs.Entries.{CheckOf, ListOf, QuestionOf, TableOf}
 use Rattle.entries.proofs.Ends as ends
 use Rattle.entries.proofs.Promised.{listing-done}
@@ -89,7 +89,8 @@ module _ (s : List ℕ) (ok : readPolicy s .how ≡ Accepted) where
         then (ends.done t d k l e b) m = absurd (omega (arith, users-are d, k, m))
 
     -- "else with 10 exactly if 3 times the count exceeds the buffer"
-    pub listing-short : (apart r .outcome ≡ 10 → (officer < users) × (length o < 3 * entries)) × (officer < users → length o < 3 * entries → apart r .outcome ≡ 10)
+    pub listing-short : (apart r .outcome ≡ 10 → (officer < users) × (length o < 3 * entries))
+        × (officer < users → length o < 3 * entries → apart r .outcome ≡ 10)
     listing-short = (only (ends.listing-ends s officer o w), then (ends.listing-ends s officer o w))
       where
         only : ends.ListEnds s officer o r a → apart r .outcome ≡ 10 → (officer < users) × (length o < 3 * entries)
@@ -115,7 +116,8 @@ module _ (s : List ℕ) (ok : readPolicy s .how ≡ Accepted) where
         by (ends.done t d k l e b) = outcome-of e
 
   -- the four numbers are the reply's outcome and value, place 0 and length 0
-  pub question-answer : {user permission r : ℕ} → QuestionOf s user permission r → apart r ≡ ofReply (question (readPolicy s .policy) user permission)
+  pub question-answer : {user permission r : ℕ} → QuestionOf s user permission r
+      → apart r ≡ ofReply (question (readPolicy s .policy) user permission)
   unfolding replyOutcome replyValue
   question-answer {user} {permission} {r} w = by (ends.question-ends s user permission w)
     where
@@ -125,10 +127,22 @@ module _ (s : List ℕ) (ok : readPolicy s .how ≡ Accepted) where
       by (ends.yes t d e) = e ∙ sym (ap ofReply d)
       by (ends.no t d e) = e ∙ sym (ap ofReply d)
 
+-- a yes or no has place and length 0
+pub question-accepted : {s : List ℕ} {user permission r : ℕ} → QuestionOf s user permission r → apart r .outcome ≡ 0
+    → (apart r .place ≡ 0) × (apart r .length ≡ 0)
+question-accepted {s} {user} {permission} {r} w z = by (ends.question-ends s user permission w)
+  where
+    by : ends.QuestionEnds s user permission r → (apart r .place ≡ 0) × (apart r .length ≡ 0)
+    by (ends.bad-file q e) = absurd (let l = refused-within s q .low in omega (arith, outcome-of e, z))
+    by (ends.unknown q d e) = absurd (omega (arith, outcome-of e, z))
+    by (ends.yes q d e) = (place-of e, length-of e)
+    by (ends.no q d e) = (place-of e, length-of e)
+
 -- ---- the part of a table
 
 -- "a table number not 1 to 5 gives 1"
-pub table-unknown : {s : List ℕ} {k r : ℕ} → TableOf s k r → (apart r .outcome ≡ 1 → isTable k ≡ false) × (isTable k ≡ false → apart r .outcome ≡ 1)
+pub table-unknown : {s : List ℕ} {k r : ℕ} → TableOf s k r
+    → (apart r .outcome ≡ 1 → isTable k ≡ false) × (isTable k ≡ false → apart r .outcome ≡ 1)
 table-unknown {s} {k} {r} w = (only (ends.table-ends s k w), then (ends.table-ends s k w))
   where
     only : ends.TableEnds s k r → apart r .outcome ≡ 1 → isTable k ≡ false

@@ -27,7 +27,8 @@ use Rattle.entries.specs.Entries.{RequestOf, requestFields, requestBytes}
 use Rattle.entries.specs.Steps.{here}
 use Rattle.entries.proofs.Promised.{request-done, byte-in}
 use Rattle.promises.specs.Department.{departmentFile}
-use Rattle.promises.specs.Versions.{CheckVersion, RequestVersion, ListingVersion, MeetsCheck, MeetsRequest, MeetsListing, Known, RefusesFiles, RefusesRequests, AcceptsRequests, Copies, EchoesLater, SameListing, Invents}
+use Rattle.promises.specs.Versions.{CheckVersion, RequestVersion, ListingVersion, MeetsCheck, MeetsRequest, MeetsListing, Known}
+use Rattle.promises.specs.Versions.{RefusesFiles, RefusesRequests, AcceptsRequests, Copies, EchoesLater, SameListing, Invents}
 use Rattle.promises.proofs.Demand2.{outcome-decided, accepted-file, accepted-policy}
 use Rattle.promises.proofs.Others.{check-accepts, listing-enough}
 use Rattle.promises.proofs.Demand3.{counted, listed-accepted-by-entry, accepted-listed-by-entry}
@@ -63,7 +64,8 @@ unfolding F rules-opened
 refusals = (refl, refl)
 
 -- what tells the files apart: byte 7, the juniors of QE1, and byte 2, the set of roles
-bytes-differ : (getD departmentFile 7 0 ≡ 7) × (getD (policyBytes inserted) 7 0 ≡ 15) × (getD (policyBytes inserted) 2 0 ≡ 15) × (getD (policyBytes created) 2 0 ≡ 31)
+bytes-differ : (getD departmentFile 7 0 ≡ 7) × (getD (policyBytes inserted) 7 0 ≡ 15) × (getD (policyBytes inserted) 2 0 ≡ 15)
+    × (getD (policyBytes created) 2 0 ≡ 31)
 unfolding F writing-opened
 bytes-differ = (refl, refl, refl, refl)
 
