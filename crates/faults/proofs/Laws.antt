@@ -6,6 +6,7 @@ use lib.ListN.{length}
 use Rattle.sets.proofs.Quantifiers.{least-any}
 use Rattle.order.specs.declared.Order.{Order}
 use Rattle.order.specs.Order.{senior, faulty, firstFault}
+use Rattle.ranges.specs.declared.Look.the-variants.{Low, Open}
 use Rattle.ranges.specs.Rows.{rowFails, firstFailing, firstOverlap}
 use Rattle.ranges.proofs.Checks.{overlap-found}
 use Rattle.policy.specs.declared.Ranges.{Ranges}
@@ -17,11 +18,11 @@ module _ (o : Order) where
   strict-found e = rw e (sym (least-any 64 (faulty (senior (o .juniors)))))
 
   module _ (m : Ranges) where
-    pub low-found : ltb (firstFailing 24 (o .used) (senior (o .juniors)) (m .count) (m .rows)) (m .count) ≡ someLow o m
+    pub low-found : ltb (firstFailing Low (o .used) (senior (o .juniors)) (m .count) (m .rows)) (m .count) ≡ someLow o m
     unfolding firstFailing rowFails someLow
     low-found = sym (least-any (m .count) _)
 
-    pub open-found : ltb (firstFailing 25 (o .used) (senior (o .juniors)) (m .count) (m .rows)) (m .count) ≡ someOpen o m
+    pub open-found : ltb (firstFailing Open (o .used) (senior (o .juniors)) (m .count) (m .rows)) (m .count) ≡ someOpen o m
     unfolding firstFailing rowFails someOpen
     open-found = sym (least-any (m .count) _)
 

@@ -9,6 +9,7 @@ use order::Order;
 use order::first_fault;
 use policy::Orders;
 use policy::Ranges;
+use ranges::Look;
 use ranges::first_failing;
 use ranges::first_overlap;
 
@@ -19,8 +20,8 @@ fn not_strict(order: Order) -> bool
     first_fault(&juniors) < 64
 }
 
-// Does some can-modify row fail the test that is looked for: 24, low junior to high, or 25, encapsulated?
-fn some_fails(order: Order, modify: Ranges, look: u8) -> bool
+// Does some can-modify row fail the test that is looked for?
+fn some_fails(order: Order, modify: Ranges, look: Look) -> bool
     requires { ⌜ modify .count ≤ 64 ⌝ }
     ensures { λ r. ⌜ r ≡ ltb (firstFailing look (order .used) (senior (order .juniors)) (modify .count) (modify .rows)) (modify .count) ⌝ }
 {
@@ -53,10 +54,10 @@ pub fn fault(orders: Orders, modify: Ranges) -> u8
     if not_strict(admins) {
         return 23;
     }
-    if some_fails(roles, modify, 24) {
+    if some_fails(roles, modify, Look::Low) {
         return 24;
     }
-    if some_fails(roles, modify, 25) {
+    if some_fails(roles, modify, Look::Open) {
         return 25;
     }
     if two_overlap(roles, modify) {

@@ -3,12 +3,14 @@ use mathlib.Core.Path.{_≡_}
 use mathlib.Core.Bool.{Bool, true, false}
 use mathlib.Core.List.{List}
 use Prim.Native.Nat.{ℕ, _<_}
-use lib.Dec.{eqb, leb, ltb}
+use lib.Dec.{leb, ltb}
 use lib.ListN.{getD}
 use Rattle.sets.specs.Tests.{_and_, _or_, neg, pick}
 use Rattle.sets.specs.Sets.{any, least}
 use Rattle.order.specs.Order.{Relation}
 use Rattle.ranges.specs.declared.ModifyRow.{ModifyRow}
+use Rattle.ranges.specs.declared.Look.{Look}
+use Rattle.ranges.specs.declared.Look.the-variants.{Low, Open, Either}
 use Rattle.ranges.specs.Ranges.{inside, encapsulated, Encapsulated, overlapInPart}
 
 -- what stands past the last row
@@ -30,14 +32,17 @@ lowNotJunior f row = neg (f (row .high .0) (row .low .0))
 unfoldable pub notEncapsulated : ℕ → Relation → ModifyRow → Bool
 notEncapsulated used f row = neg (encapsulated used f (row .low .0) (row .high .0))
 
--- a row fails the test that is looked for: 24, 25, or else either of the two, for number 9
-unfoldable pub rowFails : ℕ → ℕ → Relation → ModifyRow → Bool
-rowFails look used f row =
-    pick (eqb look 24) (lowNotJunior f row)
-    (pick (eqb look 25) (notEncapsulated used f row) (lowNotJunior f row or notEncapsulated used f row))
+-- a row fails the test that is looked for
+unfoldable pub rowFails : Look → ℕ → Relation → ModifyRow → Bool
+-- 24: "low strictly junior to high" does not hold
+rowFails Low used f row = lowNotJunior f row
+-- 25: the range is not encapsulated
+rowFails Open used f row = notEncapsulated used f row
+-- 9: either of the two
+rowFails Either used f row = lowNotJunior f row or notEncapsulated used f row
 
 -- the first of the rows that fails, and their count where none does
-unfoldable pub firstFailing : ℕ → ℕ → Relation → ℕ → List ModifyRow → ℕ
+unfoldable pub firstFailing : Look → ℕ → Relation → ℕ → List ModifyRow → ℕ
 firstFailing look used f count rows = least count (λ i. rowFails look used f (rowAt rows i))
 
 -- a place of a row, and the rows' count where no row stands there

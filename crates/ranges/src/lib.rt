@@ -9,7 +9,7 @@ ghost use Rattle.sets.specs.Sets.{has, all, Exactly};
 ghost use Rattle.order.specs.Order.{senior};
 ghost use Rattle.order.specs.Rows.{Above};
 ghost use Rattle.ranges.specs.Ranges.{inside, inRange, encapsulated, parted, overlapInPart};
-ghost use Rattle.ranges.specs.Rows.{within, rowFails, upTo, firstFailing, overlapFrom, firstOverlap, unsound};
+ghost use Rattle.ranges.specs.Rows.{within, lowNotJunior, notEncapsulated, rowFails, upTo, firstFailing, overlapFrom, firstOverlap, unsound};
 use order::Order;
 use order::all_seniors;
 use order::is_senior;
@@ -29,6 +29,16 @@ pub struct ModifyRow {
     pub admin: AdminId,
     pub low: RoleId,
     pub high: RoleId,
+}
+
+// Which test of a can-modify row is looked for.
+pub enum Look {
+    // 24: low is not junior to high
+    Low,
+    // 25: the range is not encapsulated
+    Open,
+    // 9: either of the two
+    Either,
 }
 
 // Is a the same as b, where that counts, or senior to b?
@@ -139,25 +149,38 @@ pub fn is_encapsulated(
     each_parted(juniors, seniors, range, outside, above, below)
 }
 
-// Does a row fail the test that is looked for: 24, 25, or else either of the two?
-pub fn row_fails(row: ModifyRow, look: u8, used: u64, juniors: &[u64], seniors: &[u64]) -> bool
-    requires { ⌜ Above (now juniors) (now seniors) ⌝ }
-    ensures { λ b. ⌜ b ≡ rowFails look used (senior (now (juniors .entry))) row ⌝ }
+// 24: is low of a row not junior to high?
+fn low_not_junior(row: ModifyRow, juniors: &[u64]) -> bool
+    ensures { λ b. ⌜ b ≡ lowNotJunior (senior (now (juniors .entry))) row ⌝ }
 {
     let bottom = row.low.0 as usize;
     let top = row.high.0 as usize;
-    let junior = is_senior(juniors, top, bottom);
-    if look == 24 {
-        return !junior;
+    !is_senior(juniors, top, bottom)
+}
+
+// 25: is the range of a row not encapsulated?
+fn not_encapsulated(row: ModifyRow, used: u64, juniors: &[u64], seniors: &[u64]) -> bool
+    requires { ⌜ Above (now juniors) (now seniors) ⌝ }
+    ensures { λ b. ⌜ b ≡ notEncapsulated used (senior (now (juniors .entry))) row ⌝ }
+{
+    !is_encapsulated(used, juniors, seniors, row.low, row.high)
+}
+
+// Does a row fail the test that is looked for?
+pub fn row_fails(row: ModifyRow, look: Look, used: u64, juniors: &[u64], seniors: &[u64]) -> bool
+    requires { ⌜ Above (now juniors) (now seniors) ⌝ }
+    ensures { λ b. ⌜ b ≡ rowFails look used (senior (now (juniors .entry))) row ⌝ }
+{
+    match look {
+        Look::Low => low_not_junior(row, juniors),
+        Look::Open => not_encapsulated(row, used, juniors, seniors),
+        Look::Either => {
+            if low_not_junior(row, juniors) {
+                return true;
+            }
+            not_encapsulated(row, used, juniors, seniors)
+        }
     }
-    let capsule = is_encapsulated(used, juniors, seniors, row.low, row.high);
-    if look == 25 {
-        return !capsule;
-    }
-    if !junior {
-        return true;
-    }
-    !capsule
 }
 
 // Does the range of a row overlap another in part?
@@ -176,7 +199,7 @@ pub fn overlaps(range: u64, row: ModifyRow, juniors: &[u64], seniors: &[u64]) ->
 }
 
 // The first of the rows lent that fails the test that is looked for; their count where none does.
-fn failing_row(rows: &[ModifyRow], look: u8, used: u64, juniors: &[u64], seniors: &[u64]) -> usize
+fn failing_row(rows: &[ModifyRow], look: Look, used: u64, juniors: &[u64], seniors: &[u64]) -> usize
     requires { ⌜ Above (now juniors) (now seniors) ⌝ }
     ensures { λ r. ⌜ r ≡ firstFailing look used (senior (now (juniors .entry))) (length (now (rows .entry))) (now (rows .entry)) ⌝ }
 {
@@ -194,7 +217,7 @@ fn failing_row(rows: &[ModifyRow], look: u8, used: u64, juniors: &[u64], seniors
 fn failing_among(
     rows: [ModifyRow; 64],
     count: usize,
-    look: u8,
+    look: Look,
     used: u64,
     juniors: &[u64],
     seniors: &[u64],
@@ -209,7 +232,7 @@ fn failing_among(
 pub fn first_failing(
     rows: [ModifyRow; 64],
     count: usize,
-    look: u8,
+    look: Look,
     used: u64,
     juniors: &[u64],
 ) -> usize
@@ -300,7 +323,7 @@ pub fn is_unsound(rows: [ModifyRow; 64], count: usize, order: Order) -> bool
     let used = order.used;
     let juniors = order.juniors;
     let seniors = all_seniors(&juniors);
-    if failing_among(rows, count, 9, used, &juniors, &seniors) < count {
+    if failing_among(rows, count, Look::Either, used, &juniors, &seniors) < count {
         return true;
     }
     overlap_among(rows, count, &juniors, &seniors) < count

@@ -1,42 +1,58 @@
-use borrow.Author.Tests.{not-true, not-false}
-use Rattle.ranges.proofs.Checks.{fails-low, fails-capsule, fails-first, fails-second}
+use Rattle.ranges.proofs.Checks.{fails-low, fails-open, fails-first, fails-second}
 use borrow.Author.Needs.{needs}
 use Rattle.ranges.proofs.row_fails.Statement.{statement}
 use Rattle.ranges.proofs.row_fails.Tie as tie
 
-cast-bottom : tie.Need-cast-bottom
-cast-bottom c = search needs
+enum-told : tie.Need-enum-told
+enum-told c = search needs
 
-cast-top : tie.Need-cast-top
-cast-top c = search needs
+low-not-junior-requires : tie.Need-low-not-junior-requires
+low-not-junior-requires c κs = search needs
 
-is-senior-requires : tie.Need-is-senior-requires
-is-senior-requires c κs = search needs
+enum-told-2 : tie.Need-enum-told-2
+enum-told-2 c = search needs
+
+not-encapsulated-requires : tie.Need-not-encapsulated-requires
+not-encapsulated-requires c κs = search needs
+
+enum-told-3 : tie.Need-enum-told-3
+enum-told-3 c = search needs
+
+low-not-junior-requires-2 : tie.Need-low-not-junior-requires-2
+low-not-junior-requires-2 c κs = search needs
 
 returns : tie.Need-returns
-returns c = fails-low _ _ _ _ _ (c .before .is-senior .ensures) (c .if1 .taken)
+returns c =
+    let at-call = c .before in
+    fails-first _ _ _ _ _ (at-call .before .enum-told3 .given .1) (at-call .low-not-junior2 .ensures) (c .if1 .taken)
 
-is-encapsulated-requires : tie.Need-is-encapsulated-requires
-is-encapsulated-requires c κs = search needs
+not-encapsulated-requires-2 : tie.Need-not-encapsulated-requires-2
+not-encapsulated-requires-2 c κs = search needs
 
 returns-2 : tie.Need-returns-2
-returns-2 c = fails-capsule _ _ _ _ _ (c .before .before .before .is-senior .ensures) _ (c .before .is-encapsulated .ensures) (c .before .before .if1 .left) (c .if2 .taken)
+returns-2 c = fails-low _ _ _ _ _ (c .before .enum-told .given .1) (c .low-not-junior .ensures)
 
 returns-3 : tie.Need-returns-3
-returns-3 c = fails-first _ _ _ _ _ (c .before .before .before .before .is-senior .ensures) _ (c .before .before .is-encapsulated .ensures) (c .before .before .before .if1 .left) (c .before .if2 .left) (not-true _ (c .if3 .taken))
+returns-3 c = fails-open _ _ _ _ _ (c .before .enum-told2 .given .1) (c .not-encapsulated .ensures)
 
 returns-4 : tie.Need-returns-4
-returns-4 c = fails-second _ _ _ _ _ (c .before .before .before .before .is-senior .ensures) _ (c .before .before .is-encapsulated .ensures) (c .before .before .before .if1 .left) (c .before .if2 .left) (not-false _ (c .if3 .left))
+returns-4 c =
+    let at-if = c .before in
+    let at-call = at-if .before in
+    fails-second _ _ _ _ _ (at-call .before .enum-told3 .given .1) _ (at-call .low-not-junior2 .ensures) (at-if .if1 .left) (c .not-encapsulated2 .ensures)
 
 pub row-fails-spec : {M : Type 1} → statement M
 row-fails-spec =
     tie.close
     (tie.spec
-    cast-bottom
-    cast-top
-    is-senior-requires
+    enum-told
+    low-not-junior-requires
+    enum-told-2
+    not-encapsulated-requires
+    enum-told-3
+    low-not-junior-requires-2
     returns
-    is-encapsulated-requires
+    not-encapsulated-requires-2
     returns-2
     returns-3
     returns-4)
