@@ -2,9 +2,10 @@
 ghost use mathlib.Core.Path.{_≡_};
 ghost use Prim.Native.Nat.{_≤_};
 ghost use lib.Dec.{ltb};
+ghost use Rattle.sets.specs.Tests.{_or_};
 ghost use Rattle.order.specs.Order.{senior};
 ghost use Rattle.ranges.specs.Rows.{firstFailing};
-ghost use Rattle.faults.specs.Faults.{notStrict, twoOverlap, fault};
+ghost use Rattle.faults.specs.Faults.{notStrict, someLow, someOpen, twoOverlap, fault};
 use order::Order;
 use order::first_fault;
 use policy::Orders;
@@ -13,11 +14,22 @@ use ranges::Look;
 use ranges::first_failing;
 use ranges::first_overlap;
 
+// An order is not strict.
 fn not_strict(order: Order) -> bool
     ensures { λ r. ⌜ r ≡ notStrict order ⌝ }
 {
     let juniors = order.juniors;
     first_fault(&juniors) < 64
+}
+
+// 23: either order is not strict.
+fn some_not_strict(orders: Orders) -> bool
+    ensures { λ r. ⌜ r ≡ (notStrict (orders .roles) or notStrict (orders .admins)) ⌝ }
+{
+    if not_strict(orders.roles) {
+        return true;
+    }
+    not_strict(orders.admins)
 }
 
 // Does some can-modify row fail the test that is looked for?
@@ -31,6 +43,23 @@ fn some_fails(order: Order, modify: Ranges, look: Look) -> bool
     first_failing(rows, count, look, order.used, &juniors) < count
 }
 
+// 24: a can-modify low is not junior to its high.
+fn some_low(order: Order, modify: Ranges) -> bool
+    requires { ⌜ modify .count ≤ 64 ⌝ }
+    ensures { λ r. ⌜ r ≡ someLow order modify ⌝ }
+{
+    some_fails(order, modify, Look::Low)
+}
+
+// 25: a range is not encapsulated.
+fn some_open(order: Order, modify: Ranges) -> bool
+    requires { ⌜ modify .count ≤ 64 ⌝ }
+    ensures { λ r. ⌜ r ≡ someOpen order modify ⌝ }
+{
+    some_fails(order, modify, Look::Open)
+}
+
+// 26: two ranges overlap in part.
 fn two_overlap(order: Order, modify: Ranges) -> bool
     requires { ⌜ modify .count ≤ 64 ⌝ }
     ensures { λ r. ⌜ r ≡ twoOverlap order modify ⌝ }
@@ -47,17 +76,13 @@ pub fn fault(orders: Orders, modify: Ranges) -> u8
     ensures { λ r. ⌜ r ≡ fault orders modify ⌝ }
 {
     let roles = orders.roles;
-    let admins = orders.admins;
-    if not_strict(roles) {
+    if some_not_strict(orders) {
         return 23;
     }
-    if not_strict(admins) {
-        return 23;
-    }
-    if some_fails(roles, modify, Look::Low) {
+    if some_low(roles, modify) {
         return 24;
     }
-    if some_fails(roles, modify, Look::Open) {
+    if some_open(roles, modify) {
         return 25;
     }
     if two_overlap(roles, modify) {
