@@ -35,7 +35,8 @@ use Rattle.listing.proofs.Promised.{enough}
 use Rattle.answers.specs.Answers.{Fit, fields, apart, refusal, ofFile, ofReply, ofPart}
 use Rattle.answers.specs.Carried.{Ready, carriedOut, carriedBytes}
 use Rattle.answers.proofs.Laws.{fits, answered}
-use Rattle.entries.specs.Entries.{CheckOf, RequestOf, ListOf, QuestionOf, TableOf, requestFields, requestBytes, listingFields, listingBytes, questionFields}
+use Rattle.entries.specs.Entries.{CheckOf, RequestOf, ListOf, QuestionOf, TableOf, requestFields}
+use Rattle.entries.specs.Entries.{requestBytes, listingFields, listingBytes, questionFields}
 use Rattle.entries.proofs.Laws.{file-fits, ready, part-fits}
 
 -- ---- the ways
@@ -67,7 +68,8 @@ pub data ListEnds (s : List ℕ) (officer : ℕ) (o : List ℕ) (r : ℕ) (a : L
 
 pub data QuestionEnds (s : List ℕ) (user permission : ℕ) (r : ℕ) : Type 0 where
   bad-file : {c p : ℕ} → readPolicy s .how ≡ Refused c p → apart r ≡ refusal c p → QuestionEnds s user permission r
-  unknown : readPolicy s .how ≡ Accepted → question (readPolicy s .policy) user permission ≡ reply.Unknown → apart r ≡ refusal 2 0 → QuestionEnds s user permission r
+  unknown : readPolicy s .how ≡ Accepted → question (readPolicy s .policy) user permission ≡ reply.Unknown
+      → apart r ≡ refusal 2 0 → QuestionEnds s user permission r
   yes : readPolicy s .how ≡ Accepted → question (readPolicy s .policy) user permission ≡ reply.Yes → apart r ≡ fields 0 1 0 0 → QuestionEnds s user permission r
   no : readPolicy s .how ≡ Accepted → question (readPolicy s .policy) user permission ≡ reply.No → apart r ≡ fields 0 0 0 0 → QuestionEnds s user permission r
 
@@ -122,7 +124,10 @@ module _ (s : List ℕ) where
       unfolding requestFields requestBytes carriedOut carriedBytes writtenOutcome writtenLength
       request-done z l =
           let m = always-enough (d .policy) (fit .good) in
-          done q refl z l (answered _ (fits (omega arith) (fit .number) (omega arith) (omega (arith, m))) (w .answer) (rw (q, z, long-answer (d .policy) o l))) (w .bytes ∙ rw (q, z, long-bytes (d .policy) o l))
+          done q refl z l
+          (answered _ (fits (omega arith) (fit .number) (omega arith) (omega (arith, m))) (w .answer)
+          (rw (q, z, long-answer (d .policy) o l)))
+          (w .bytes ∙ rw (q, z, long-bytes (d .policy) o l))
 
       request-decided : RequestEnds s x o r a
       request-decided =
@@ -166,7 +171,10 @@ module _ (s : List ℕ) where
       list-done k l =
           let y = lt-leb _ _ k in
           let z = le-ltb _ _ l in
-          done q refl k l (answered _ (fits (omega arith) (omega arith) (omega arith) (omega (arith, enough p officer))) (w .answer) (rw (q, y, z))) (w .bytes ∙ rw (q, y, z))
+          done q refl k l
+          (answered _ (fits (omega arith) (omega arith) (omega arith) (omega (arith, enough p officer))) (w .answer)
+          (rw (q, y, z)))
+          (w .bytes ∙ rw (q, y, z))
 
     pub listing-ends : ListEnds s officer o r a
     listing-ends = by (readPolicy s .how) refl

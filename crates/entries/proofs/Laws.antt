@@ -33,7 +33,8 @@ use Rattle.listing.proofs.Promised.{enough}
 use Rattle.answers.specs.Answers.{Fit, packed, refusal, ofFile, ofListed, ofReply, ofPart}
 use Rattle.answers.specs.Carried.{CarriedOut, Ready}
 use Rattle.answers.proofs.Laws.{fits}
-use Rattle.entries.specs.Entries.{CheckOf, RequestOf, ListOf, QuestionOf, TableOf, requestFields, requestBytes, listingFields, listingBytes, questionFields}
+use Rattle.entries.specs.Entries.{CheckOf, RequestOf, ListOf, QuestionOf, TableOf, requestFields}
+use Rattle.entries.specs.Entries.{requestBytes, listingFields, listingBytes, questionFields}
 
 -- ---- a file that was read
 
@@ -108,11 +109,13 @@ module _ (s : List ℕ) {l : Loaded} (e : l ≡ readPolicy s) where
         by false false =
             fits (omega arith) (omega arith) (omega arith) (omega (arith, enough (l .policy) officer))
 
-    pub good-listing : (officer : ℕ) {o a : List ℕ} {n : Listed} {r : ℕ} → ListingOf (l .policy) officer o n a → r ≡ packed (ofListed n) → ListOf s officer o r a
+    pub good-listing : (officer : ℕ) {o a : List ℕ} {n : Listed} {r : ℕ} → ListingOf (l .policy) officer o n a
+        → r ≡ packed (ofListed n) → ListOf s officer o r a
     unfolding listingFields listingBytes
     good-listing officer w q = record { answer = q ∙ rw (w .is, is-ok, e); bytes = w .bytes ∙ rw (is-ok, e) }
 
-    pub good-question : (user permission : ℕ) {y : Reply} {r : ℕ} → y ≡ question (l .policy) user permission → r ≡ packed (ofReply y) → QuestionOf s user permission r
+    pub good-question : (user permission : ℕ) {y : Reply} {r : ℕ} → y ≡ question (l .policy) user permission
+        → r ≡ packed (ofReply y) → QuestionOf s user permission r
     unfolding questionFields
     good-question user permission w q = record { answer = q ∙ rw (w, is-ok, e) }
 

@@ -12,7 +12,8 @@ use Rattle.policy.specs.Build.{withRoles}
 use Rattle.policy.specs.Outcome.{first, refused, accepted}
 use Rattle.policy.proofs.Outcomes.{answer-refused, answer-accepted}
 use Rattle.hierarchy.specs.declared.Site.{Site}
-use Rattle.hierarchy.specs.Rules.{site, newRole, named, someIn, createRules, deleteRules, insertRules, cutRules, createRole, deleteRole, insertEdge, deleteEdge}
+use Rattle.hierarchy.specs.Rules.{site, newRole, named, someIn, createRules, deleteRules, insertRules, cutRules}
+use Rattle.hierarchy.specs.Rules.{createRole, deleteRole, insertEdge, deleteEdge}
 use Rattle.hierarchy.proofs.Accepted.{site-roles}
 
 module _ (p : Policy) (o a b : ℕ) {s : Site} (e : s ≡ site p o) {m : ℕ} where
@@ -32,8 +33,9 @@ module _ (p : Policy) (o a b : ℕ) {s : Site} (e : s ≡ site p o) {m : ℕ} wh
         → accepted q n ≡ createRole p o a b
     unfolding createRole
     create-accepted z {n} d {r} g {q} k =
-        answer-accepted p _ _ _ outcome-5 z
-        (k ∙ ap (withRoles p) (g ∙ ap (λ (x : Order). create x n a b) (site-roles p o e) ∙ ap (λ (x : ℕ). create (p .orders .roles) x a b) (new-role d))) (new-role d)
+        let after = g ∙ ap (λ (x : Order). create x n a b) (site-roles p o e)
+        ∙ ap (λ (x : ℕ). create (p .orders .roles) x a b) (new-role d) in
+        answer-accepted p _ _ _ outcome-5 z (k ∙ ap (withRoles p) after) (new-role d)
 
   module _ (h : m ≡ first (deleteRules s (named (p .tables) (p .modify) a) (someIn (p .people .users) a or someIn (p .permissions) a) a b)) where
     outcome-6 : m ≡ first (deleteRules (site p o) (named (p .tables) (p .modify) a) (someIn (p .people .users) a or someIn (p .permissions) a) a b)

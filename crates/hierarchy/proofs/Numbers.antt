@@ -35,11 +35,13 @@ module _ (s : Site) (a b : ℕ) where
   unfolding createRules has-number leads _or_
   create-full = first-leads 6 (createRules s a b) create-distinct refl ∙ simp neg-neg
 
-  pub create-spoilt : eqb (first (createRules s a b)) 9 ≡ (neg (unknownPair s a b) and mayModify s 5 a b and over s a b and neg (full s) and spoils s (create (s .roles) (newRole s) a b))
+  pub create-spoilt : eqb (first (createRules s a b)) 9
+      ≡ (neg (unknownPair s a b) and mayModify s 5 a b and over s a b and neg (full s) and spoils s (create (s .roles) (newRole s) a b))
   unfolding createRules has-number leads _or_
   create-spoilt = first-leads 9 (createRules s a b) create-distinct refl ∙ simp neg-neg
 
-  pub create-accepted : eqb (first (createRules s a b)) 0 ≡ (neg (unknownPair s a b) and mayModify s 5 a b and over s a b and neg (full s) and neg (spoils s (create (s .roles) (newRole s) a b)))
+  pub create-accepted : eqb (first (createRules s a b)) 0
+      ≡ (neg (unknownPair s a b) and mayModify s 5 a b and over s a b and neg (full s) and neg (spoils s (create (s .roles) (newRole s) a b)))
   unfolding createRules clear
   create-accepted = first-clear (createRules s a b) create-distinct ∙ simp (neg-neg, and-true)
 
@@ -69,7 +71,8 @@ module _ (s : Site) (names members : Bool) (a b : ℕ) where
   unfolding deleteRules has-number leads _or_
   delete-occupied = first-leads 8 (deleteRules s names members a b) delete-distinct refl ∙ simp neg-neg
 
-  pub delete-accepted : eqb (first (deleteRules s names members a b)) 0 ≡ (eqb b 0 and neg (unknownRole s a) and mayModify s 6 a b and neg names and neg members)
+  pub delete-accepted : eqb (first (deleteRules s names members a b)) 0
+      ≡ (eqb b 0 and neg (unknownRole s a) and mayModify s 6 a b and neg names and neg members)
   unfolding deleteRules clear
   delete-accepted = first-clear (deleteRules s names members a b) delete-distinct ∙ simp (neg-neg, and-true)
 
@@ -91,11 +94,13 @@ module _ (s : Site) (a b : ℕ) where
   unfolding insertRules has-number leads _or_
   insert-idle = first-leads 5 (insertRules s a b) insert-distinct refl ∙ simp neg-neg
 
-  pub insert-spoilt : eqb (first (insertRules s a b)) 9 ≡ (neg (unknownPair s a b) and mayModify s 7 a b and neg (comparable (over s) a b) and spoils s (insert (s .roles) a b))
+  pub insert-spoilt : eqb (first (insertRules s a b)) 9
+      ≡ (neg (unknownPair s a b) and mayModify s 7 a b and neg (comparable (over s) a b) and spoils s (insert (s .roles) a b))
   unfolding insertRules has-number leads _or_
   insert-spoilt = first-leads 9 (insertRules s a b) insert-distinct refl ∙ simp neg-neg
 
-  pub insert-accepted : eqb (first (insertRules s a b)) 0 ≡ (neg (unknownPair s a b) and mayModify s 7 a b and neg (comparable (over s) a b) and neg (spoils s (insert (s .roles) a b)))
+  pub insert-accepted : eqb (first (insertRules s a b)) 0
+      ≡ (neg (unknownPair s a b) and mayModify s 7 a b and neg (comparable (over s) a b) and neg (spoils s (insert (s .roles) a b)))
   unfolding insertRules clear
   insert-accepted = first-clear (insertRules s a b) insert-distinct ∙ simp (neg-neg, and-true)
 
@@ -121,6 +126,7 @@ module _ (s : Site) (a b : ℕ) where
   unfolding cutRules has-number leads _or_
   cut-spoilt = first-leads 9 (cutRules s a b) cut-distinct refl ∙ simp neg-neg
 
-  pub cut-accepted : eqb (first (cutRules s a b)) 0 ≡ (neg (unknownPair s a b) and mayModify s 8 a b and edge (over s) a b and neg (spoils s (cutEdge (s .roles) a b)))
+  pub cut-accepted : eqb (first (cutRules s a b)) 0
+      ≡ (neg (unknownPair s a b) and mayModify s 8 a b and edge (over s) a b and neg (spoils s (cutEdge (s .roles) a b)))
   unfolding cutRules clear
   cut-accepted = first-clear (cutRules s a b) cut-distinct ∙ simp (neg-neg, and-true)

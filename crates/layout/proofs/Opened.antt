@@ -4,7 +4,9 @@ use Prim.Native.Nat.{ℕ}
 use Rattle.sets.specs.Sets.{has}
 use Rattle.number.specs.Number.{groupsOf, numBytes}
 use Rattle.number.specs.Run.{each}
-use Rattle.layout.specs.Layout.{juniorsBytes, orderBytes, userBytes, usersBytes, permissionsBytes, endsBytes, conditionBytes, rowBytes, modifyBytes, rowsBytes, rangesBytes, tableOf, tablesBytes, sectionsBytes, policyBytes}
+use Rattle.layout.specs.Layout.{juniorsBytes, orderBytes, userBytes, usersBytes, permissionsBytes}
+use Rattle.layout.specs.Layout.{endsBytes, conditionBytes, rowBytes, modifyBytes, rowsBytes}
+use Rattle.layout.specs.Layout.{rangesBytes, tableOf, tablesBytes, sectionsBytes, policyBytes}
 
 sections-opened : ℕ
 unfolding has groupsOf numBytes each juniorsBytes orderBytes userBytes usersBytes permissionsBytes sectionsBytes

@@ -23,7 +23,10 @@ each-split g zero n i = ap₂ (each g) (zero-add n) (sym (add-zero i))
 each-split g (suc m) n i =
     let s : suc m + n ≡ suc (m + n) = omega arith in
     let e : i + 1 + m ≡ i + suc m = omega arith in
-    rw s (ap (λ (l : List ℕ). g i ++ l) (each-split g m n (i + 1)) ∙ sym (append-assoc (g i) (each g m (i + 1)) (each g n (i + 1 + m))) ∙ ap (λ (x : ℕ). (g i ++ each g m (i + 1)) ++ each g n x) e)
+    rw s
+    (ap (λ (l : List ℕ). g i ++ l) (each-split g m n (i + 1))
+    ∙ sym (append-assoc (g i) (each g m (i + 1)) (each g n (i + 1 + m)))
+    ∙ ap (λ (x : ℕ). (g i ++ each g m (i + 1)) ++ each g n x) e)
 
 -- ---- a place that passes has its entry behind those of the places before it that pass
 module _ (f : ℕ → Bool) (i : ℕ) (l : i < placeCount) (t : f i ≡ true) where
@@ -52,7 +55,10 @@ module _ (f : ℕ → Bool) (i : ℕ) (l : i < placeCount) (t : f i ≡ true) wh
   before-long = each-length f i 0 ∙ ap (λ (x : ℕ). 3 * x) (count-same i _ _ (λ k h. ap f (zero-add k)))
 
   byte-at : (j : ℕ) → getD (entriesOf f) (3 * count i f + j) 0 ≡ getD (entry i ++ after) j 0
-  byte-at j = ap (λ (x : List ℕ). getD x (3 * count i f + j) 0) around ∙ ap (λ (x : ℕ). getD (before ++ (entry i ++ after)) (x + j) 0) (sym before-long) ∙ getD-append-add before (entry i ++ after) j 0
+  byte-at j =
+      ap (λ (x : List ℕ). getD x (3 * count i f + j) 0) around
+      ∙ ap (λ (x : ℕ). getD (before ++ (entry i ++ after)) (x + j) 0) (sym before-long)
+      ∙ getD-append-add before (entry i ++ after) j 0
 
   pub entry-stands : EntryIs (entriesOf f) (count i f) (kindAt i) (aAt i) (bAt i)
   entry-stands =

@@ -25,7 +25,8 @@ use Rattle.requests.proofs.Decided.{every-request}
 use lib.Seq.{sets}
 use Rattle.number.specs.Run.{each}
 use Rattle.number.proofs.Puts.{Putting, put-room, put-step}
-use Rattle.listing.specs.Listing.{accepts, placeCount, listedAt, entryCount, entry, entriesOf, entriesFor, acceptedSet, AcceptedRows, inRows, listed, filled, ListingOf}
+use Rattle.listing.specs.Listing.{accepts, placeCount, listedAt, entryCount, entry, entriesOf, entriesFor}
+use Rattle.listing.specs.Listing.{acceptedSet, AcceptedRows, inRows, listed, filled, ListingOf}
 use Rattle.listing.specs.declared.Listed.the-variants.{Unknown, Short, Entries}
 use Rattle.listing.specs.Sites.{siteOutcome}
 
@@ -39,7 +40,8 @@ module _ (p : Policy) (o a b : ℕ) where
   unfolding rulesOf siteOutcome
   accepts-create = by-rules 5
 
-  pub accepts-delete : accepts p o 6 a b ≡ eqb (first (deleteRules (site p o) (named (p .tables) (p .modify) a) (someIn (p .people .users) a or someIn (p .permissions) a) a b)) 0
+  pub accepts-delete : accepts p o 6 a b ≡ eqb (first (deleteRules (site p o) (named (p .tables) (p .modify) a)
+      (someIn (p .people .users) a or someIn (p .permissions) a) a b)) 0
   unfolding rulesOf
   accepts-delete = by-rules 6
 
@@ -88,13 +90,17 @@ module _ (s : Site) (names members : Bool) (a : ℕ) where
 
 -- ---- the rows that are gathered
 module _ (p : Policy) (o j : ℕ) (l : j < 256) where
-  pub row-site : {s : Site} → s ≡ site p o → (5 + j / 64 ≡ 6 → ⊥) → {r : ℕ} → r ≡ setOf 64 (λ b. eqb (siteOutcome s (5 + j / 64) (j % 64) b) 0) → r ≡ acceptedSet p o j
+  pub row-site : {s : Site} → s ≡ site p o → (5 + j / 64 ≡ 6 → ⊥) → {r : ℕ}
+      → r ≡ setOf 64 (λ b. eqb (siteOutcome s (5 + j / 64) (j % 64) b) 0) → r ≡ acceptedSet p o j
   unfolding acceptedSet
   row-site e n q =
-      q ∙ setOf-same 64 _ _ (λ b h. ap (λ (s : Site). eqb (siteOutcome s (5 + j / 64) (j % 64) b) 0) e ∙ sym (accepts-site p o (j % 64) b (5 + j / 64) (omega arith) (omega arith) n))
+      q ∙ setOf-same 64 _ _ (λ b h.
+      ap (λ (s : Site). eqb (siteOutcome s (5 + j / 64) (j % 64) b) 0) e
+      ∙ sym (accepts-site p o (j % 64) b (5 + j / 64) (omega arith) (omega arith) n))
 
   pub row-delete : {s : Site} → s ≡ site p o → 5 + j / 64 ≡ 6 → {n m : Bool} → n ≡ named (p .tables) (p .modify) (j % 64)
-      → m ≡ (someIn (p .people .users) (j % 64) or someIn (p .permissions) (j % 64)) → {r : ℕ} → r ≡ setOf 64 (λ b. eqb (first (deleteRules s n m (j % 64) b)) 0)
+      → m ≡ (someIn (p .people .users) (j % 64) or someIn (p .permissions) (j % 64)) → {r : ℕ}
+      → r ≡ setOf 64 (λ b. eqb (first (deleteRules s n m (j % 64) b)) 0)
       → r ≡ acceptedSet p o j
   unfolding acceptedSet
   row-delete e k {n} {m} en em q =

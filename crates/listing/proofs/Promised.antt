@@ -26,9 +26,12 @@ use Rattle.requests.specs.Requests.{decide, rulesOf}
 use Rattle.requests.specs.Reached.{Reached}
 use Rattle.requests.proofs.Decided.{every-request, reached-good}
 use Rattle.requests.proofs.Safe.{create-safe, delete-safe, insert-safe, cut-safe}
-use Rattle.listing.specs.Listing.{accepts, kindAt, aAt, bAt, placeCount, listedAt, entryCount, entriesOf, entriesFor, EntryIs, InListing, InKinds, Earlier}
+use Rattle.listing.specs.Listing.{accepts, kindAt, aAt, bAt, placeCount, listedAt, entryCount}
+use Rattle.listing.specs.Listing.{entriesOf, entriesFor, EntryIs, InListing, InKinds, Earlier}
 use Rattle.listing.proofs.Laws.{entries-length, accepts-delete}
-use Rattle.listing.proofs.Entries.{count-below, entry-stands, PlaceOf, place-holding, later-place, placeFor, place-within, place-kind, place-first, place-second, place-in-kinds, place-before}
+use Rattle.listing.proofs.Entries.{count-below, entry-stands, PlaceOf, place-holding}
+use Rattle.listing.proofs.Entries.{later-place, placeFor, place-within, place-kind}
+use Rattle.listing.proofs.Entries.{place-first, place-second, place-in-kinds, place-before}
 
 module _ (p : Policy) (o : ℕ) where
   -- each place of the listing holds a request that would be accepted
@@ -38,7 +41,9 @@ module _ (p : Policy) (o : ℕ) where
 
   stands-at : {n : ℕ} (x : PlaceOf (listedAt p o) placeCount n) → EntryIs (entriesFor p o) n (kindAt (x .place)) (aAt (x .place)) (bAt (x .place))
   unfolding entriesFor
-  stands-at x = subst (λ (m : ℕ). EntryIs (entriesOf (listedAt p o)) m (kindAt (x .place)) (aAt (x .place)) (bAt (x .place))) (x .before) (entry-stands (listedAt p o) (x .place) (x .within) (x .passes))
+  stands-at x =
+      subst (λ (m : ℕ). EntryIs (entriesOf (listedAt p o)) m (kindAt (x .place)) (aAt (x .place)) (bAt (x .place)))
+      (x .before) (entry-stands (listedAt p o) (x .place) (x .within) (x .passes))
 
   -- "every request of kinds 5 to 8 that would be accepted": an entry is in the listing only if the request would be accepted
   pub listed-accepted : {n k a b : ℕ} → InListing p o n k a b → (accepts p o k a b ≡ true) × InKinds k a b
@@ -108,7 +113,9 @@ unfolding entryCount listedAt
 enough p o =
     omega (arith, split, count-le 4096 (listedAt p o), sixth, count-le 8192 (λ i. listedAt p o (4096 + (4096 + i))))
   where
-    split : count placeCount (listedAt p o) ≡ count 4096 (listedAt p o) + (count 4096 (λ i. listedAt p o (4096 + i)) + count 8192 (λ i. listedAt p o (4096 + (4096 + i))))
+    split : count placeCount (listedAt p o)
+        ≡ count 4096 (listedAt p o)
+        + (count 4096 (λ i. listedAt p o (4096 + i)) + count 8192 (λ i. listedAt p o (4096 + (4096 + i))))
     split = count-add 4096 12288 (listedAt p o) ∙ ap (λ (x : ℕ). count 4096 (listedAt p o) + x) (count-add 4096 8192 (λ i. listedAt p o (4096 + i)))
 
     kind-six : (i : ℕ) → i < 4096 → 5 + (4096 + i) / 4096 ≡ 6
@@ -119,7 +126,11 @@ enough p o =
 
     sixth : count 4096 (λ i. listedAt p o (4096 + i)) ≤ 64
     sixth = subst (λ (x : ℕ). count 4096 (λ i. listedAt p o (4096 + i)) ≤ x) firsts
-        (count-mono _ _ 4096 (λ i l t. ap (λ (x : ℕ). eqb x 0) (sym (zero-b i)) ∙ delete-zero p o ((4096 + i) / 64 % 64) ((4096 + i) % 64) (ap (λ (k : ℕ). accepts p o k ((4096 + i) / 64 % 64) ((4096 + i) % 64)) (sym (kind-six i l)) ∙ t)))
+        (count-mono _ _ 4096 (λ i l t.
+        let a = (4096 + i) / 64 % 64 in
+        let b = (4096 + i) % 64 in
+        ap (λ (x : ℕ). eqb x 0) (sym (zero-b i))
+        ∙ delete-zero p o a b (ap (λ (k : ℕ). accepts p o k a b) (sym (kind-six i l)) ∙ t)))
 
 -- ---- carrying out what is listed
 zero-of : (p : Policy) (o c a b : ℕ) → accepts p o c a b ≡ true → first (rulesOf p (record { officer = o; kind = c; a = a; b = b })) ≡ 0
@@ -191,7 +202,8 @@ unfolding mayChange
 outside-second s x y h = any-fails _ _ (λ i l. not-so _ (λ t. clash (and-r _ _ (and-r _ _ t)) (h i l (and-l _ _ t))))
 
 -- where one of two roles lies outside every range that this officer may modify, no listed request changes their dominance
-module _ (p : Policy) (o : ℕ) (g : Good p) {n k a b : ℕ} (h : InListing p o n k a b) (x y : ℕ) (ux : has (p .orders .roles .used) x ≡ true) (uy : has (p .orders .roles .used) y ≡ true) where
+module _ (p : Policy) (o : ℕ) (g : Good p) {n k a b : ℕ} (h : InListing p o n k a b) (x y : ℕ)
+    (ux : has (p .orders .roles .used) x ≡ true) (uy : has (p .orders .roles .used) y ≡ true) where
   abbrev after : Policy
   after = decide p (record { officer = o; kind = k; a = a; b = b }) .policy
 

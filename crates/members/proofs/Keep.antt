@@ -70,7 +70,8 @@ module _ (p : Policy) (g : Good p) where
   -- one law for users and permissions: whatever sets take the place of theirs, as long as these are good
   roles-good : (users permissions : List ℕ) → GoodSets (p .orders .roles .used) (p .people .users .count) users
       → GoodSets (p .orders .roles .used) (p .permissions .count) permissions
-      → Good (withPermissions (withUsers p (record { count = p .people .users .count; roles = users })) (record { count = p .permissions .count; roles = permissions }))
+      → Good (withPermissions (withUsers p (record { count = p .people .users .count; roles = users }))
+      (record { count = p .permissions .count; roles = permissions }))
   roles-good users permissions u m =
       record {
         sizes = record {

@@ -72,11 +72,13 @@ module _ (f : Relation) (h : Strict f) where
   insert-strict a b e =
       record {
         irreflexive = λ x. not-so _ (λ s. ⊎-elim (λ (u : f x x ≡ true). clash u (h .irreflexive x))
-            (λ (u : (atLeast f x a and atLeast f b x) ≡ true). clash (at-least-trans b x a (and-r _ _ u) (and-l _ _ u)) (apart-not-below f a b e)) (or-cases _ _ s));
+            (λ (u : (atLeast f x a and atLeast f b x) ≡ true).
+            clash (at-least-trans b x a (and-r _ _ u) (and-l _ _ u)) (apart-not-below f a b e)) (or-cases _ _ s));
         transitive = λ x y z s t.
             ⊎-elim
             (λ (u : f x y ≡ true). ⊎-elim (λ (v : f y z ≡ true). or-l _ _ (h .transitive x y z u v))
-            (λ (v : (atLeast f y a and atLeast f b z) ≡ true). or-r _ _ (and-i _ _ (at-least-trans x y a (senior-at-least x y u) (and-l _ _ v)) (and-r _ _ v))) (or-cases _ _ t))
+            (λ (v : (atLeast f y a and atLeast f b z) ≡ true).
+            or-r _ _ (and-i _ _ (at-least-trans x y a (senior-at-least x y u) (and-l _ _ v)) (and-r _ _ v))) (or-cases _ _ t))
             (λ (u : (atLeast f x a and atLeast f b y) ≡ true). or-r _ _ (and-i _ _ (and-l _ _ u)
             (⊎-elim (λ (v : f y z ≡ true). at-least-trans b y z (and-r _ _ u) (senior-at-least y z v))
             (λ (v : (atLeast f y a and atLeast f b z) ≡ true). and-r _ _ v) (or-cases _ _ t))))

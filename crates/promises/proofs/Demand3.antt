@@ -124,7 +124,8 @@ module _ {start file : List ℕ} (ok : readPolicy start .how ≡ Accepted) (way 
     carried-good = rw after-is (listed-good s officer good (in-listing l e))
 
     -- Which of those changes reaches line 7? None, where one of two roles lies outside every range that this officer may modify.
-    pub carried-untouched : (c d : ℕ) → has (s .orders .roles .used) c ≡ true → has (s .orders .roles .used) d ≡ true → has (after .orders .roles .used) c ≡ true
+    pub carried-untouched : (c d : ℕ) → has (s .orders .roles .used) c ≡ true → has (s .orders .roles .used) d ≡ true
+        → has (after .orders .roles .used) c ≡ true
         → has (after .orders .roles .used) d ≡ true → Outside (site s officer) c ⊎ Outside (site s officer) d
         → senior (after .orders .roles .juniors) c d ≡ senior (s .orders .roles .juniors) c d
     carried-untouched c d uc ud vc vd h =

@@ -11,7 +11,8 @@ use lib.ListN.{length}
 use Rattle.sets.specs.Tests.{pick}
 use Rattle.number.specs.Run.{go, stop}
 use Rattle.sections.specs.Sections.{allBelow}
-use Rattle.sections.proofs.Bounds.{NumWithin, Within, within-go, within-stop, within-num, within-step, tested-within, order-within, people-within, members-within}
+use Rattle.sections.proofs.Bounds.{NumWithin, Within, within-go, within-stop, within-num, within-step}
+use Rattle.sections.proofs.Bounds.{tested-within, order-within, people-within, members-within}
 use Rattle.rows.proofs.Bounds.{table-within, ranges-within, table-some, ranges-some}
 use Rattle.faults.specs.Faults.{fault}
 use Rattle.faults.proofs.Means.{fault-number}

@@ -50,7 +50,8 @@ front-steps s {e} {f} q =
     let p = on-step (membersAt s (r .1 .used) (u .0)) _ (u .3) in
     with-ends (one .2) (r .2) (a .2) (u .2) (p .2) (p .3)
   where
-    with-ends : {x a b c d k : ℕ} {roles admins : Order} {people : People} {permissions : Members} → oneAt s 0 ≡ Value x a → orderAt s (allBelow 64) a ≡ go b roles
+    with-ends : {x a b c d k : ℕ} {roles admins : Order} {people : People} {permissions : Members}
+        → oneAt s 0 ≡ Value x a → orderAt s (allBelow 64) a ≡ go b roles
         → orderAt s (allBelow 16) b ≡ go c admins → peopleAt s (roles .used) (admins .used) c ≡ go d people → membersAt s (roles .used) d ≡ go k permissions
         → go k (front roles admins people permissions) ≡ go e f → FrontSteps s e f
     with-ends {x} {a} {b} {c} {d} {k} {roles} {admins} {people} {permissions} one ro ad pe me q =
@@ -98,7 +99,9 @@ rest-steps s roles admins a {end} {r} q =
   where
     with-ends : {b c d e k : ℕ} {assign revoke assignp revokep : Table} {modify : Ranges} → tableAt s true roles admins a ≡ go b assign
         → tableAt s false roles admins b ≡ go c revoke → tableAt s true roles admins c ≡ go d assignp → tableAt s false roles admins d ≡ go e revokep
-        → rangesAt s roles admins e ≡ go k modify → go k (rest assign revoke assignp revokep modify (places a b c d e k)) ≡ go end r → RestSteps s roles admins a end r
+        → rangesAt s roles admins e ≡ go k modify
+        → go k (rest assign revoke assignp revokep modify (places a b c d e k)) ≡ go end r
+        → RestSteps s roles admins a end r
     with-ends {b} {c} {d} {e} {k} {assign} {revoke} {assignp} {revokep} {modify} ta tr tp tq tm q =
         let z : rest assign revoke assignp revokep modify (places a b c d e k) ≡ r = cc in
         let y : k ≡ end = cc in
@@ -136,7 +139,8 @@ judge-gone s end f r {e} {x} q = by (ltb end (length s)) refl (eqb n 0) refl q
     n : ℕ
     n = fault (f .orders) (r .modify)
 
-    by : (t : Bool) → ltb end (length s) ≡ t → (u : Bool) → eqb n 0 ≡ u → pick t (stop 27 end) (pick u (go end (file f r)) (stop n 0)) ≡ go e x → Judged s end f r e x
+    by : (t : Bool) → ltb end (length s) ≡ t → (u : Bool) → eqb n 0 ≡ u
+        → pick t (stop 27 end) (pick u (go end (file f r)) (stop n 0)) ≡ go e x → Judged s end f r e x
     by true et u eu q = absurd (let z : _≡_ {A = ℕ} 0 1 = cc in omega arith)
     by false et true eu q = record { is = cc; place = cc; over = ltb-false end (length s) et; faultless = eqb-true n 0 eu }
     by false et false eu q = absurd (let z : _≡_ {A = ℕ} 0 1 = cc in omega arith)

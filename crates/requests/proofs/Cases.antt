@@ -5,8 +5,12 @@ use mathlib.Core.List.{map}
 use Prim.Native.Nat.{ℕ}
 use Rattle.ranges.proofs.Opened.{effects-opened, ranges-opened}
 use Rattle.policy.specs.Outcome.{first, answer}
-use Rattle.members.specs.Rules.{userView, permissionView, covers, satisfied, unknown, covered, granted, assignRules, revokeRules, withRole, withoutRole, assignUser, revokeUser, assignPermission, revokePermission}
-use Rattle.hierarchy.specs.Rules.{site, createIn, edgeIn, rowAllows, mayModify, unknownRole, unknownPair, full, newRole, spoils, rowNames, tableNames, rangesName, named, someIn, createRules, deleteRules, insertRules, cutRules, createRole, deleteRole, insertEdge, deleteEdge}
+use Rattle.members.specs.Rules.{userView, permissionView, covers, satisfied, unknown, covered}
+use Rattle.members.specs.Rules.{granted, assignRules, revokeRules, withRole, withoutRole}
+use Rattle.members.specs.Rules.{assignUser, revokeUser, assignPermission, revokePermission}
+use Rattle.hierarchy.specs.Rules.{site, createIn, edgeIn, rowAllows, mayModify, unknownRole, unknownPair, full}
+use Rattle.hierarchy.specs.Rules.{newRole, spoils, rowNames, tableNames, rangesName, named, someIn, createRules}
+use Rattle.hierarchy.specs.Rules.{deleteRules, insertRules, cutRules, createRole, deleteRole, insertEdge, deleteEdge}
 use Rattle.requests.specs.Requests.{decide}
 use Rattle.requests.specs.Examples.{F, chain, Case}
 use Rattle.requests.specs.Cases.{cases}

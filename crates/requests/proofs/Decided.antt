@@ -23,7 +23,8 @@ use Rattle.hierarchy.specs.declared.Site.{Site}
 use Rattle.hierarchy.specs.Rules.{site, newRole, createRole, deleteRole, insertEdge, deleteEdge, createRules, deleteRules, insertRules, cutRules}
 use Rattle.safety.proofs.Goodness.{create-good, delete-good, insert-good, cut-good}
 use Rattle.requests.specs.declared.Request.{Request}
-use Rattle.requests.specs.Kinds.{Kind, none, assignsUser, revokesUser, assignsPermission, revokesPermission, createsRole, deletesRole, insertsEdge, deletesEdge, kindOf}
+use Rattle.requests.specs.Kinds.{Kind, none, assignsUser, revokesUser, assignsPermission, revokesPermission}
+use Rattle.requests.specs.Kinds.{createsRole, deletesRole, insertsEdge, deletesEdge, kindOf}
 use Rattle.requests.specs.Requests.{answerTo, refusalsOf, decide, rulesOf}
 use Rattle.requests.specs.Numbers.{mayGive, NUMBERS, tableRow}
 use Rattle.requests.specs.Reached.{Reached, here, next}
@@ -54,7 +55,8 @@ unfolding newRole lowestFree
 new-role s = least-le 64 _
 
 -- an answer made of the first refusal
-decided : (p : Policy) (refusals : Refusals) (q : Policy) (k : ℕ) → k ≤ 64 → (Good p → Good (answer p (first refusals) q k .policy)) → Decided p refusals (answer p (first refusals) q k)
+decided : (p : Policy) (refusals : Refusals) (q : Policy) (k : ℕ) → k ≤ 64
+    → (Good p → Good (answer p (first refusals) q k .policy)) → Decided p refusals (answer p (first refusals) q k)
 decided p r q k l g =
     let u = answer-unchanged p (first r) q k in
     record { outcome = answer-outcome p (first r) q k; unchanged = u .policy; number = u .number; good = g; role = answer-role p (first r) q k l }

@@ -6,7 +6,8 @@ use Prim.Native.Nat.{ℕ}
 use lib.Dec.{eqb}
 use lib.ListN.{getD}
 use Rattle.sets.specs.Tests.{_or_}
-use Rattle.requests.specs.Kinds.{Kind, none, assignsUser, revokesUser, assignsPermission, revokesPermission, createsRole, deletesRole, insertsEdge, deletesEdge, kindOf}
+use Rattle.requests.specs.Kinds.{Kind, none, assignsUser, revokesUser, assignsPermission, revokesPermission}
+use Rattle.requests.specs.Kinds.{createsRole, deletesRole, insertsEdge, deletesEdge, kindOf}
 
 -- n is in the list
 unfoldable pub among : ℕ → List ℕ → Bool

@@ -8,7 +8,8 @@ use Rattle.policy.specs.Outcome.{Refusals, accept, refuse, refused}
 use Rattle.members.specs.Rules.{userView, permissionView, assignRules, revokeRules, assignUser, revokeUser, assignPermission, revokePermission}
 use Rattle.hierarchy.specs.Rules.{site, named, someIn, createRules, deleteRules, insertRules, cutRules, createRole, deleteRole, insertEdge, deleteEdge}
 use Rattle.requests.specs.declared.Request.{Request}
-use Rattle.requests.specs.Kinds.{Kind, none, assignsUser, revokesUser, assignsPermission, revokesPermission, createsRole, deletesRole, insertsEdge, deletesEdge, kindOf}
+use Rattle.requests.specs.Kinds.{Kind, none, assignsUser, revokesUser, assignsPermission, revokesPermission}
+use Rattle.requests.specs.Kinds.{createsRole, deletesRole, insertsEdge, deletesEdge, kindOf}
 
 -- a request, from its four numbers
 abbrev pub ask : ℕ → ℕ → ℕ → ℕ → Request

@@ -47,7 +47,8 @@ module _ (s : List ℕ) (roles admins : ℕ) where
     count-is : m .count ≡ n
     rows-are : Filled noRow (λ j r. RangeRight roles admins r) 64 i (m .rows)
 
-  range-keeps : (n : ℕ) → n ≤ 64 → (i at : ℕ) (m : Ranges) (next : ℕ) (b : Ranges) → i < n → Ranged n i m → rangeStep s roles admins i at m ≡ go next b → Ranged n (i + 1) b
+  range-keeps : (n : ℕ) → n ≤ 64 → (i at : ℕ) (m : Ranges) (next : ℕ) (b : Ranges) → i < n → Ranged n i m
+      → rangeStep s roles admins i at m ≡ go next b → Ranged n (i + 1) b
   unfolding rangeStep
   range-keeps n most i at m next b h k q =
       let a = on-step (rangeAt s roles admins at) _ q in
@@ -139,7 +140,8 @@ module _ (s : List ℕ) (assign : Bool) (roles admins : ℕ) where
     count-is : t .count ≡ n
     rows-are : Filled emptyRow (λ j r. RowRight assign roles admins r) 64 i (t .rows)
 
-  row-keeps : (n : ℕ) → n ≤ 64 → (i at : ℕ) (t : Table) (next : ℕ) (b : Table) → i < n → Tabled n i t → rowStep s assign roles admins i at t ≡ go next b → Tabled n (i + 1) b
+  row-keeps : (n : ℕ) → n ≤ 64 → (i at : ℕ) (t : Table) (next : ℕ) (b : Table) → i < n → Tabled n i t
+      → rowStep s assign roles admins i at t ≡ go next b → Tabled n (i + 1) b
   unfolding rowStep
   row-keeps n most i at t next b h k q =
       let a = on-step (tableRowAt s assign roles admins at) _ q in
@@ -152,7 +154,8 @@ pub record TableRight (assign : Bool) (roles admins : ℕ) (t : Table) : Type 0 
   pub rows : GoodTable roles admins t
   pub plain : assign ≡ false → Unconditional t
 
-pub table-right : (s : List ℕ) (assign : Bool) (roles admins at : ℕ) {e : ℕ} {t : Table} → tableAt s assign roles admins at ≡ go e t → TableRight assign roles admins t
+pub table-right : (s : List ℕ) (assign : Bool) (roles admins at : ℕ) {e : ℕ} {t : Table}
+    → tableAt s assign roles admins at ≡ go e t → TableRight assign roles admins t
 unfolding tableAt
 table-right s assign roles admins at {e} {t} q =
     let c = on-num (countAt s 64 at) _ q in

@@ -128,7 +128,8 @@ module _ (s : Site) (g : GoodSite s) where
       let ua = known-first s a b (ok .known) in
       let ub = known-second s a b (ok .known) in
       let h = keep.create-keeps (s .roles) (sound-of _ (g .order)) n a b l free (ok .senior) in
-      let other : (x : ℕ) → has (s .roles .used) x ≡ true → eqb x n ≡ false = λ x u. not-so _ (λ t. clash u (ap (has (s .roles .used)) (eqb-true x n t) ∙ free)) in
+      let other : (x : ℕ) → has (s .roles .used) x ≡ true → eqb x n ≡ false =
+      λ x u. not-so _ (λ t. clash u (ap (has (s .roles .used)) (eqb-true x n t) ∙ free)) in
       record {
         order = good-of _ _ h;
         rows = rows-after _ h (ok .sound);

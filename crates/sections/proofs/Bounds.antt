@@ -87,7 +87,8 @@ module _ (s : List ℕ) {at : ℕ} (h : at ≤ length s) where
         ends = λ x e q. tested-next t s at q;
         refuses = λ c p q.
             let place = tested-place t s at h q in
-            ⊎-elim (λ r. ⊎-elim (λ k. record { low = omega arith; high = omega arith; place = place }) (λ k. record { low = omega arith; high = omega arith; place = place }) (num-refused s at r))
+            ⊎-elim (λ r. ⊎-elim (λ k. record { low = omega arith; high = omega arith; place = place })
+            (λ k. record { low = omega arith; high = omega arith; place = place }) (num-refused s at r))
             (λ r. record { low = omega arith; high = omega arith; place = place }) (tested-refused t at (numAt s at) q);
       }
 

@@ -61,7 +61,8 @@ module _ (s : List ℕ) (roles : ℕ) where
     count-is : m .count ≡ n
     roles-are : Filled 0 (λ j x. SetIn roles x) 256 i (m .roles)
 
-  member-keeps : (n : ℕ) → n ≤ 256 → (i at : ℕ) (m : Members) (next : ℕ) (b : Members) → i < n → Memberships n i m → memberStep s roles i at m ≡ go next b → Memberships n (i + 1) b
+  member-keeps : (n : ℕ) → n ≤ 256 → (i at : ℕ) (m : Members) (next : ℕ) (b : Members) → i < n → Memberships n i m
+      → memberStep s roles i at m ≡ go next b → Memberships n (i + 1) b
   unfolding memberStep
   member-keeps n most i at m next b h k q =
       let a = on-num (setAt s roles at) _ q in
@@ -91,7 +92,8 @@ module _ (s : List ℕ) (roles admins : ℕ) where
     roles-are : Filled 0 (λ j x. SetIn roles x) 256 i (p .users .roles)
     offices-are : Filled 0 (λ j x. SetIn admins x) 256 i (p .offices)
 
-  user-keeps : (n : ℕ) → n ≤ 256 → (i at : ℕ) (p : People) (next : ℕ) (b : People) → i < n → Peopled n i p → userStep s roles admins i at p ≡ go next b → Peopled n (i + 1) b
+  user-keeps : (n : ℕ) → n ≤ 256 → (i at : ℕ) (p : People) (next : ℕ) (b : People) → i < n → Peopled n i p
+      → userStep s roles admins i at p ≡ go next b → Peopled n (i + 1) b
   unfolding userStep
   user-keeps n most i at p next b h k q =
       let x = on-num (setAt s roles at) _ q in

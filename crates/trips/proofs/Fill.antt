@@ -55,7 +55,8 @@ module _ {B : Type 0} (none : B) where
         ext-getD none (set (filled-to none l i) i (getD l i none)) (filled-to none l (i + 1))
         (length-set (filled-to none l i) i (getD l i none) ∙ long ∙ sym (up-long (i + 1) (omega arith)))
         (λ k b. by-test (eqb k i)
-        (λ t. rw (eqb-true k i t) (getD-set-same (filled-to none l i) i (getD l i none) none (omega arith) ∙ sym (up-done (i + 1) i (omega arith) (omega arith))))
+        (λ t. rw (eqb-true k i t) (getD-set-same (filled-to none l i) i (getD l i none) none (omega arith)
+        ∙ sym (up-done (i + 1) i (omega arith) (omega arith))))
         (λ t. getD-set-other (filled-to none l i) i k (getD l i none) none (eqb-false k i t)
         ∙ by-test (ltb k i) (λ u. up-done i k (omega arith) (ltb-true k i u) ∙ sym (up-done (i + 1) k (omega arith) (omega (arith, ltb-true k i u))))
         (λ u. up-rest i k (omega arith) (ltb-false k i u) ∙ sym (up-rest (i + 1) k (omega arith) (omega (arith, ltb-false k i u, eqb-false k i t))))))
@@ -98,6 +99,7 @@ module _ {A : Type 0} (f : ℕ → ℕ → A → Step A) (g : ℕ → List ℕ) 
   counted-read most start at l h b w =
       let c = tested-written (λ x. leb x most) s at N h (le-leb N most l) (stands-first (numBytes N) (each g N 0) w) in
       let r = run-states N 0 (at + length (numBytes N)) (omega arith) (stands-second (numBytes N) (each g N 0) w) in
-      let e : at + length (numBytes N) + length (each g N 0) ≡ at + length (numBytes N ++ each g N 0) = omega (arith, length-append (numBytes N) (each g N 0)) in
+      let e : at + length (numBytes N) + length (each g N 0) ≡ at + length (numBytes N ++ each g N 0) =
+      omega (arith, length-append (numBytes N) (each g N 0)) in
       let z : 0 + N ≡ N = omega arith in
       rw (c, b) (r ∙ rw (e, z))

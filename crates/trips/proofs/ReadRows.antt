@@ -59,7 +59,8 @@ module _ (s : List ℕ) (roles admins : ℕ) (u : roles < 2 ^ 64) (v : admins < 
       let e : at + length a + length l + length h ≡ at + length (a ++ l ++ h) = omega (arith, ends-of (r .admin) (r .low) (r .high)) in
       rw (ra, rl, rh, e)
 
-  condition-read : (at : ℕ) (f : ModifyRow) (brackets needed barred : ℕ) → needed < 2 ^ 64 → barred < 2 ^ 64 → subset 64 needed roles ≡ true → subset 64 barred roles ≡ true
+  condition-read : (at : ℕ) (f : ModifyRow) (brackets needed barred : ℕ) → needed < 2 ^ 64 → barred < 2 ^ 64
+      → subset 64 needed roles ≡ true → subset 64 barred roles ≡ true
       → Stands s at (numBytes needed ++ numBytes barred)
       → conditionAt s roles f brackets at ≡ go (at + length (numBytes needed ++ numBytes barred)) (row f brackets needed barred)
   unfolding conditionAt

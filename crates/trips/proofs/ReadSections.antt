@@ -83,7 +83,8 @@ module _ (s : List ℕ) (roles admins : ℕ) (p : People) (size : p .users .coun
       let y = getD (p .offices) i 0 in
       let first = set-read s x (g .small i) (stands-first (numBytes x) (numBytes y) w) roles (g .inner i h) in
       let second = set-read s y (o .small i) (stands-second (numBytes x) (numBytes y) w) admins (o .inner i h) in
-      let e : at + length (numBytes x) + length (numBytes y) ≡ at + length (numBytes x ++ numBytes y) = omega (arith, length-append (numBytes x) (numBytes y)) in
+      let e : at + length (numBytes x) + length (numBytes y) ≡ at + length (numBytes x ++ numBytes y) =
+      omega (arith, length-append (numBytes x) (numBytes y)) in
       rw (first, second, e, up-set 0 (p .users .roles) i (omega (arith, g .long)), up-set 0 (p .offices) i (omega (arith, o .long)))
 
   pub users-read : (at : ℕ) → Stands s at (usersBytes p) → peopleAt s roles admins at ≡ go (at + length (usersBytes p)) p
@@ -137,7 +138,8 @@ module _ (s : List ℕ) (w : ℕ) (o : Order) (g : GoodOrder w o) (wide : w ≤ 
       let a = numBytes (o .used) in
       let r = each junior-bytes 64 0 in
       let u = set-read s (o .used) (lt-of-lt-of-le (g .width) (pow-mono wide)) (stands-first a r v) (allBelow w) numbered in
-      let j = run-states (juniorStep s (o .used)) junior-bytes (filled-to 0 (o .juniors)) s 64 junior-reads 64 0 (at + length a) (omega arith) (stands-second a r v) in
+      let states = run-states (juniorStep s (o .used)) junior-bytes (filled-to 0 (o .juniors)) s 64 junior-reads in
+      let j = states 64 0 (at + length a) (omega arith) (stands-second a r v) in
       let b = up-none 0 (o .juniors) in
       let long = g .rows in
       let e = up-all 0 (o .juniors) 64 (omega arith) (λ k l. List·getD-eq-default (o .juniors) 0 {n = k} (omega arith)) in

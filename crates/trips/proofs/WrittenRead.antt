@@ -40,8 +40,11 @@ module _ (s : List ℕ) (small : (k : ℕ) → getD s k 0 < 256) where
   front-exact : {e : ℕ} {f : Front} → FrontSteps s e f → Exact s 0 e (sectionsBytes (f .orders .roles) (f .orders .admins) (f .people) (f .permissions))
   unfolding sectionsBytes
   front-exact k =
-      exact-next (exact-next (exact-next (exact-next (one-exact (k .one .1)) (order-exact s small (allBelow 64) (k .first) (k .roles)))
-      (order-exact s small (allBelow 16) (k .second) (k .admins))) (users-exact s small _ _ (k .third) (k .people))) (permissions-exact s small _ (k .fourth) (k .permissions))
+      exact-next (exact-next (exact-next (exact-next (one-exact (k .one .1))
+      (order-exact s small (allBelow 64) (k .first) (k .roles)))
+      (order-exact s small (allBelow 16) (k .second) (k .admins)))
+      (users-exact s small _ _ (k .third) (k .people)))
+      (permissions-exact s small _ (k .fourth) (k .permissions))
 
   -- ---- the tables
   module _ {roles admins a end : ℕ} {r : Rest} (k : RestSteps s roles admins a end r) where
@@ -49,8 +52,11 @@ module _ (s : List ℕ) (small : (k : ℕ) → getD s k 0 < 256) where
     unfolding tablesBytes tableOf
     rest-exact =
         rw (← k .start, ← k .stop)
-        (exact-next (exact-next (exact-next (exact-next (rows-exact s small roles admins true _ (k .assign)) (rows-exact s small roles admins false _ (k .revoke)))
-        (rows-exact s small roles admins true _ (k .assignp))) (rows-exact s small roles admins false _ (k .revokep))) (ranges-exact s small roles admins _ (k .modify)))
+        (exact-next (exact-next (exact-next (exact-next (rows-exact s small roles admins true _ (k .assign))
+        (rows-exact s small roles admins false _ (k .revoke)))
+        (rows-exact s small roles admins true _ (k .assignp)))
+        (rows-exact s small roles admins false _ (k .revokep)))
+        (ranges-exact s small roles admins _ (k .modify)))
 
     -- table n, from where it starts to where it ends
     table-exact : (n : ℕ) → 1 ≤ n → n ≤ 5 → Exact s (startOf (r .places) n) (endOf (r .places) n) (tableOf (r .tables) (r .modify) n)

@@ -49,7 +49,8 @@ module _ (s : List ℕ) (small : (k : ℕ) → getD s k 0 < 256) (roles admins :
       let b = on-num (countAt s 3 (f .0)) _ (f .3) in
       by assign refl (f .0) (f .1) (b .0) (b .1) (exact-next (ends-exact at (f .2)) (count-exact s small 3 (b .2))) (b .3)
     where
-      by : (t : Bool) → assign ≡ t → (fourth : ℕ) (x : ModifyRow) (brackets next : ℕ) → Exact s at next (endsBytes (x .admin) (x .low) (x .high) ++ numBytes brackets)
+      by : (t : Bool) → assign ≡ t → (fourth : ℕ) (x : ModifyRow) (brackets next : ℕ)
+          → Exact s at next (endsBytes (x .admin) (x .low) (x .high) ++ numBytes brackets)
           → pick t (conditionAt s roles x brackets next) (go next (row x brackets 0 0)) ≡ go e r → Exact s at e (rowBytes assign r)
       by true t fourth x brackets next k q =
           let n = on-num (setAt s roles next) _ q in

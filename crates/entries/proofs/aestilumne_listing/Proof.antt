@@ -26,14 +26,20 @@ list-requires c κs =
 
 of-listed-requires : tie.Need-of-listed-requires
 of-listed-requires c κs =
-    listed-fits _ (c .before .before .before .before .before .before .read-policy .ensures) (c .before .before .before .before .enum-told .given .1) _ (c .before .before .list .ensures)
+    let at-list = c .before .before in
+    let at-enum-told = at-list .before .before in
+    listed-fits _ (at-enum-told .before .before .read-policy .ensures) (at-enum-told .enum-told .given .1) _
+    (at-list .list .ensures)
 
 same-length : tie.Need-same-length
 same-length c = search needs
 
 returns-2 : tie.Need-returns-2
 returns-2 c =
-    good-listing _ (c .before .before .before .before .before .before .before .read-policy .ensures) (c .before .before .before .before .before .enum-told .given .1) _ (c .before .before .before .list .ensures) (c .of-listed .ensures)
+    let at-list = c .before .before .before in
+    let at-enum-told = at-list .before .before in
+    good-listing _ (at-enum-told .before .before .read-policy .ensures) (at-enum-told .enum-told .given .1) _
+    (at-list .list .ensures) (c .of-listed .ensures)
 
 pub aestilumne-listing-spec : {M : Type 1} → statement M
 aestilumne-listing-spec =

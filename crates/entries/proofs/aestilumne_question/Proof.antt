@@ -28,7 +28,9 @@ of-reply-requires c κs = search needs
 
 returns-2 : tie.Need-returns-2
 returns-2 c =
-    good-question _ (c .before .before .before .before .read-policy .ensures) (c .before .before .enum-told .given .1) _ _ (c .before .question .ensures) (c .of-reply .ensures)
+    let at-enum-told = c .before .before in
+    good-question _ (at-enum-told .before .before .read-policy .ensures) (at-enum-told .enum-told .given .1) _ _
+    (c .before .question .ensures) (c .of-reply .ensures)
 
 pub aestilumne-question-spec : {M : Type 1} → statement M
 aestilumne-question-spec =

@@ -26,14 +26,19 @@ decide-requires c κs =
 
 carry-out-requires : tie.Need-carry-out-requires
 carry-out-requires c κs =
-    ready _ (c .before .before .before .before .read-policy .ensures) (c .before .before .enum-told .given .1) _ (c .before .decide .ensures)
+    let at-enum-told = c .before .before in
+    ready _ (at-enum-told .before .before .read-policy .ensures) (at-enum-told .enum-told .given .1) _
+    (c .before .decide .ensures)
 
 same-length : tie.Need-same-length
 same-length c = search needs
 
 returns-2 : tie.Need-returns-2
 returns-2 c =
-    good-request _ (c .before .before .before .before .before .before .before .read-policy .ensures) (c .before .before .before .before .before .enum-told .given .1) _ (c .before .before .before .before .decide .ensures) (c .before .before .carry-out .ensures)
+    let at-carry-out = c .before .before in
+    let at-enum-told = at-carry-out .before .before .before in
+    good-request _ (at-enum-told .before .before .read-policy .ensures) (at-enum-told .enum-told .given .1) _
+    (at-carry-out .before .before .decide .ensures) (at-carry-out .carry-out .ensures)
 
 pub aestilumne-request-spec : {M : Type 1} → statement M
 aestilumne-request-spec =

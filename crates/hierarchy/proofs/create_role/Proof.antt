@@ -15,13 +15,18 @@ refused-requires : tie.Need-refused-requires
 refused-requires c κs = search needs
 
 returns : tie.Need-returns
-returns c = c .refused .ensures ∙ create-refused _ _ _ _ (c .before .before .before .site-of .ensures) (c .before .before .create-outcome .ensures) (c .before .if1 .taken)
+returns c =
+    c .refused .ensures
+    ∙ create-refused _ _ _ _ (c .before .before .before .site-of .ensures) (c .before .before .create-outcome .ensures)
+    (c .before .if1 .taken)
 
 lowest-free-requires : tie.Need-lowest-free-requires
 lowest-free-requires c κs = search needs
 
 create-requires : tie.Need-create-requires
-create-requires c κs = create-fits _ (search needs) _ _ (sym (c .before .before .before .create-outcome .ensures) ∙ c .before .before .if1 .left) _ (c .lowest-free .ensures)
+create-requires c κs =
+    let zero = sym (c .before .before .before .create-outcome .ensures) ∙ c .before .before .if1 .left in
+    create-fits _ (search needs) _ _ zero _ (c .lowest-free .ensures)
 
 with-roles-requires : tie.Need-with-roles-requires
 with-roles-requires c κs = search needs
@@ -30,7 +35,12 @@ accepted-requires : tie.Need-accepted-requires
 accepted-requires c κs = search needs
 
 returns-2 : tie.Need-returns-2
-returns-2 c = c .accepted .ensures ∙ create-accepted _ _ _ _ (c .before .before .before .before .before .before .before .site-of .ensures) (c .before .before .before .before .before .before .create-outcome .ensures) (c .before .before .before .before .before .if1 .left) (c .before .before .before .lowest-free .ensures) (c .before .before .create .ensures) (c .before .with-roles .ensures)
+returns-2 c =
+    let free = c .before .before .before in
+    let decided = free .before .before in
+    c .accepted .ensures
+    ∙ create-accepted _ _ _ _ (decided .before .before .site-of .ensures) (decided .before .create-outcome .ensures)
+    (decided .if1 .left) (free .lowest-free .ensures) (c .before .before .create .ensures) (c .before .with-roles .ensures)
 
 pub create-role-spec : {M : Type 1} → statement M
 create-role-spec =

@@ -24,7 +24,10 @@ is-at-least-requires-2 c κs = search needs
 
 returns-2 : tie.Need-returns-2
 unfolding createIn
-returns-2 c = c .is-at-least2 .ensures ∙ sym (and-given _ _ (sym (c .before .before .is-at-least .ensures) ∙ not-false (c .before .before .is-at-least .result) (c .before .if1 .left)))
+returns-2 c =
+    let first = c .before .before .is-at-least in
+    c .is-at-least2 .ensures
+    ∙ sym (and-given _ _ (sym (first .ensures) ∙ not-false (first .result) (c .before .if1 .left)))
 
 pub creates-in-spec : {M : Type 1} → statement M
 creates-in-spec =

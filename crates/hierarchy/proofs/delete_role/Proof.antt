@@ -21,7 +21,11 @@ refused-requires : tie.Need-refused-requires
 refused-requires c κs = search needs
 
 returns : tie.Need-returns
-returns c = c .refused .ensures ∙ delete-refused _ _ _ _ (c .before .before .before .before .before .site-of .ensures) (c .before .before .delete-outcome .ensures ∙ rules-same _ _ _ (c .before .before .before .before .is-named .ensures) (c .before .before .before .is-occupied .ensures)) (c .before .if1 .taken)
+returns c =
+    let asked = c .before .before .before in
+    let outcome = c .before .before .delete-outcome .ensures
+    ∙ rules-same _ _ _ (asked .before .is-named .ensures) (asked .is-occupied .ensures) in
+    c .refused .ensures ∙ delete-refused _ _ _ _ (asked .before .before .site-of .ensures) outcome (c .before .if1 .taken)
 
 remove-requires : tie.Need-remove-requires
 remove-requires c κs = delete-fits _ (search needs) _ _ _ _ (sym (c .before .delete-outcome .ensures) ∙ c .if1 .left)
@@ -33,7 +37,14 @@ accepted-requires : tie.Need-accepted-requires
 accepted-requires c κs = search needs
 
 returns-2 : tie.Need-returns-2
-returns-2 c = c .accepted .ensures ∙ delete-accepted _ _ _ _ (c .before .before .before .before .before .before .before .site-of .ensures) (c .before .before .before .before .delete-outcome .ensures ∙ rules-same _ _ _ (c .before .before .before .before .before .before .is-named .ensures) (c .before .before .before .before .before .is-occupied .ensures)) (c .before .before .before .if1 .left) (c .before .before .remove .ensures) (c .before .with-roles .ensures)
+returns-2 c =
+    let decided = c .before .before .before in
+    let asked = decided .before .before in
+    let outcome = decided .before .delete-outcome .ensures
+    ∙ rules-same _ _ _ (asked .before .is-named .ensures) (asked .is-occupied .ensures) in
+    c .accepted .ensures
+    ∙ delete-accepted _ _ _ _ (asked .before .before .site-of .ensures) outcome (decided .if1 .left)
+    (c .before .before .remove .ensures) (c .before .with-roles .ensures)
 
 pub delete-role-spec : {M : Type 1} → statement M
 delete-role-spec =

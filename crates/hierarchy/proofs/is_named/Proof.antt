@@ -38,7 +38,16 @@ ranges-name-requires c κs = search needs
 
 returns-5 : tie.Need-returns-5
 unfolding named
-returns-5 c = c .ranges-name .ensures ∙ sym (or-given _ _ (sym (c .before .before .before .before .before .before .before .before .table-names .ensures) ∙ c .before .before .before .before .before .before .before .if1 .left) ∙ or-given _ _ (sym (c .before .before .before .before .before .before .table-names2 .ensures) ∙ c .before .before .before .before .before .if2 .left) ∙ or-given _ _ (sym (c .before .before .before .before .table-names3 .ensures) ∙ c .before .before .before .if3 .left) ∙ or-given _ _ (sym (c .before .before .table-names4 .ensures) ∙ c .before .if4 .left))
+returns-5 c =
+    let fourth = c .before in
+    let third = fourth .before .before in
+    let second = third .before .before in
+    let first = second .before .before in
+    c .ranges-name .ensures
+    ∙ sym (or-given _ _ (sym (first .before .table-names .ensures) ∙ first .if1 .left)
+    ∙ or-given _ _ (sym (second .before .table-names2 .ensures) ∙ second .if2 .left)
+    ∙ or-given _ _ (sym (third .before .table-names3 .ensures) ∙ third .if3 .left)
+    ∙ or-given _ _ (sym (fourth .before .table-names4 .ensures) ∙ fourth .if4 .left))
 
 pub is-named-spec : {M : Type 1} → statement M
 is-named-spec =

@@ -17,7 +17,9 @@ contains-requires-2 : tie.Need-contains-requires-2
 contains-requires-2 c κs = search needs
 
 returns-3 : tie.Need-returns-3
-returns-3 c = pair-second _ _ _ (not-false _ (c .before .before .before .if1 .left)) _ (c .before .before .contains .ensures) (not-false _ (c .before .if2 .left)) _ (c .contains2 .ensures)
+returns-3 c =
+    pair-second _ _ _ (not-false _ (c .before .before .before .if1 .left)) _ (c .before .before .contains .ensures)
+    (not-false _ (c .before .if2 .left)) _ (c .contains2 .ensures)
 
 pub is-unknown-pair-spec : {M : Type 1} → statement M
 is-unknown-pair-spec =

@@ -13,7 +13,9 @@ use Rattle.hierarchy.proofs.may_modify.Statement.{statement}
 use Rattle.hierarchy.proofs.may_modify.Tie as tie
 
 abbrev Inv-loop : tie.InvT-loop
-Inv-loop site kind a b juniors modify count i₀ i = (count ≡ site .modify .count) × (i ≤ count) × None (λ k. has (site .usable) (rowAt (site .modify .rows) k .admin .0) and rowAllows kind (senior (site .roles .juniors)) a b (rowAt (site .modify .rows) k)) i
+Inv-loop site kind a b juniors modify count i₀ i =
+    (count ≡ site .modify .count) × (i ≤ count) × None (λ k. has (site .usable) (rowAt (site .modify .rows) k .admin .0)
+    and rowAllows kind (senior (site .roles .juniors)) a b (rowAt (site .modify .rows) k)) i
 
 abbrev μ-loop : tie.MeasureT-loop
 μ-loop site kind a b juniors modify count i₀ i = count - i
@@ -41,7 +43,12 @@ row-allows-requires c κs = search needs
 
 returns : tie.Need-returns Inv-loop μ-loop
 unfolding mayModify
-returns c = found-any _ _ (c .before .before .before .before .before .before .before .before .loop .i) (search needs) (and-i _ _ (sym (c .before .before .before .before .contains .ensures) ∙ c .before .before .before .if1 .taken) (sym (c .before .row-allows .ensures) ∙ c .if2 .taken))
+returns c =
+    let tested = c .before .before .before in
+    let turn = tested .before .before .before in
+    let usable = sym (tested .before .contains .ensures) ∙ tested .if1 .taken in
+    let allows = sym (c .before .row-allows .ensures) ∙ c .if2 .taken in
+    found-any _ _ (turn .before .before .loop .i) (search needs) (and-i _ _ usable allows)
 
 add-i : tie.Need-add-i Inv-loop μ-loop
 add-i c = search needs
@@ -50,12 +57,11 @@ loop-less : tie.Need-loop-less Inv-loop μ-loop
 loop-less c = search needs
 
 loop-again : tie.Need-loop-again Inv-loop μ-loop
-loop-again c = (
-  search needs,
-  search needs,
-  none-turn _ _ (c .before .before .before .before .before .loop .inv .2)
-      (⊎-elim (λ w. and-fails-r _ _ (sym (w .2 .ensures) ∙ w .3 .left)) (λ w. and-fails-l _ _ (sym (c .before .contains .ensures) ∙ w .left)) (c .if1 .came)),
-)
+loop-again c =
+    let turn = c .before .before .before in
+    let fails = ⊎-elim (λ w. and-fails-r _ _ (sym (w .2 .ensures) ∙ w .3 .left))
+    (λ w. and-fails-l _ _ (sym (c .before .contains .ensures) ∙ w .left)) (c .if1 .came) in
+    (search needs, search needs, none-turn _ _ (turn .before .before .loop .inv .2) fails)
 
 returns-2 : tie.Need-returns-2 Inv-loop μ-loop
 unfolding mayModify

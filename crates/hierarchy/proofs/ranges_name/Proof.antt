@@ -10,7 +10,8 @@ use Rattle.hierarchy.proofs.ranges_name.Statement.{statement}
 use Rattle.hierarchy.proofs.ranges_name.Tie as tie
 
 abbrev Inv-loop : tie.InvT-loop
-Inv-loop a modify count i₀ i = (count ≡ modify .count) × (i ≤ count) × None (λ k. eqb a (rowAt (modify .rows) k .low .0) or eqb a (rowAt (modify .rows) k .high .0)) i
+Inv-loop a modify count i₀ i =
+    (count ≡ modify .count) × (i ≤ count) × None (λ k. eqb a (rowAt (modify .rows) k .low .0) or eqb a (rowAt (modify .rows) k .high .0)) i
 
 abbrev μ-loop : tie.MeasureT-loop
 μ-loop a modify count i₀ i = count - i
@@ -29,7 +30,9 @@ range-names-requires c κs = search needs
 
 returns : tie.Need-returns Inv-loop μ-loop
 unfolding rangesName
-returns c = found-any _ _ (c .before .before .before .before .loop .i) (search needs) (sym (c .before .range-names .ensures) ∙ c .if1 .taken)
+returns c =
+    let turn = c .before .before .before in
+    found-any _ _ (turn .before .loop .i) (search needs) (sym (c .before .range-names .ensures) ∙ c .if1 .taken)
 
 add-i : tie.Need-add-i Inv-loop μ-loop
 add-i c = search needs
@@ -38,7 +41,9 @@ loop-less : tie.Need-loop-less Inv-loop μ-loop
 loop-less c = search needs
 
 loop-again : tie.Need-loop-again Inv-loop μ-loop
-loop-again c = (search needs, search needs, none-turn _ _ (c .before .before .before .before .loop .inv .2) (sym (c .before .range-names .ensures) ∙ c .if1 .left))
+loop-again c =
+    let turn = c .before .before .before in
+    (search needs, search needs, none-turn _ _ (turn .before .loop .inv .2) (sym (c .before .range-names .ensures) ∙ c .if1 .left))
 
 returns-2 : tie.Need-returns-2 Inv-loop μ-loop
 unfolding rangesName

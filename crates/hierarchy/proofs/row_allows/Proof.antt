@@ -21,13 +21,19 @@ lies-in-requires-2 : tie.Need-lies-in-requires-2
 lies-in-requires-2 c κs = search needs
 
 returns-3 : tie.Need-returns-3
-returns-3 c = allows-not _ _ _ _ _ (c .before .before .before .if1 .left) (c .before .before .if2 .left) (sym (c .before .lies-in2 .ensures) ∙ not-true _ (c .if3 .taken))
+returns-3 c =
+    allows-not _ _ _ _ _ (c .before .before .before .if1 .left) (c .before .before .if2 .left)
+    (sym (c .before .lies-in2 .ensures) ∙ not-true _ (c .if3 .taken))
 
 lies-in-requires-3 : tie.Need-lies-in-requires-3
 lies-in-requires-3 c κs = search needs
 
 returns-4 : tie.Need-returns-4
-returns-4 c = c .lies-in3 .ensures ∙ allows-edge _ _ _ _ _ (c .before .before .before .before .if1 .left) (c .before .before .before .if2 .left) (sym (c .before .before .lies-in2 .ensures) ∙ not-false _ (c .before .if3 .left))
+returns-4 c =
+    let second = c .before .before .before in
+    c .lies-in3 .ensures
+    ∙ allows-edge _ _ _ _ _ (second .before .if1 .left) (second .if2 .left)
+    (sym (c .before .before .lies-in2 .ensures) ∙ not-false _ (c .before .if3 .left))
 
 pub row-allows-spec : {M : Type 1} → statement M
 row-allows-spec =

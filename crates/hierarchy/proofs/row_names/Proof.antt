@@ -32,7 +32,12 @@ contains-requires-2 c κs = search needs
 
 returns-4 : tie.Need-returns-4
 unfolding rowNames
-returns-4 c = c .contains2 .ensures ∙ sym (or-given _ _ (ne-eqb _ _ (c .before .before .before .before .before .if1 .left)) ∙ or-given _ _ (ne-eqb _ _ (c .before .before .before .if2 .left)) ∙ or-given _ _ (sym (c .before .before .contains .ensures) ∙ c .before .if3 .left))
+returns-4 c =
+    let second = c .before .before .before in
+    let first = second .before .before in
+    c .contains2 .ensures
+    ∙ sym (or-given _ _ (ne-eqb _ _ (first .if1 .left)) ∙ or-given _ _ (ne-eqb _ _ (second .if2 .left))
+    ∙ or-given _ _ (sym (c .before .before .contains .ensures) ∙ c .before .if3 .left))
 
 pub row-names-spec : {M : Type 1} → statement M
 row-names-spec =

@@ -28,7 +28,9 @@ contains-requires c κs = search needs
 
 returns : tie.Need-returns Inv-loop μ-loop
 unfolding someIn
-returns c = found-any _ _ (c .before .before .before .before .loop .u) (search needs) (sym (c .before .contains .ensures) ∙ c .if1 .taken)
+returns c =
+    let turn = c .before .before .before in
+    found-any _ _ (turn .before .loop .u) (search needs) (sym (c .before .contains .ensures) ∙ c .if1 .taken)
 
 add-u : tie.Need-add-u Inv-loop μ-loop
 add-u c = search needs
@@ -37,7 +39,9 @@ loop-less : tie.Need-loop-less Inv-loop μ-loop
 loop-less c = search needs
 
 loop-again : tie.Need-loop-again Inv-loop μ-loop
-loop-again c = (search needs, search needs, none-turn _ _ (c .before .before .before .before .loop .inv .2) (sym (c .before .contains .ensures) ∙ c .if1 .left))
+loop-again c =
+    let turn = c .before .before .before in
+    (search needs, search needs, none-turn _ _ (turn .before .loop .inv .2) (sym (c .before .contains .ensures) ∙ c .if1 .left))
 
 returns-2 : tie.Need-returns-2 Inv-loop μ-loop
 unfolding someIn

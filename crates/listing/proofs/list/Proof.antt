@@ -10,7 +10,7 @@ returns : tie.Need-returns
 returns c = list-unknown _ _ _ (c .if1 .taken)
 
 gathered-requires : tie.Need-gathered-requires
-gathered-requires c κs = c .before .before .before .before .pre
+gathered-requires c κs = search needs
 
 total-requires : tie.Need-total-requires
 total-requires c κs = search needs
@@ -22,13 +22,22 @@ returns-2 : tie.Need-returns-2
 returns-2 c = list-short _ _ _ (c .before .before .before .if1 .left) (c .before .before .gathered .ensures) (c .before .total .ensures) (c .if2 .taken)
 
 put-entries-requires : tie.Need-put-entries-requires
-put-entries-requires c κs = list-room _ _ (c .before .before .before .before .before .before .before .before .args .out .now) (c .before .before .before .before .if1 .left) (c .before .before .before .gathered .ensures) (c .before .before .total .ensures) (c .before .if2 .left)
+put-entries-requires c κs =
+    let at-gathered = c .before .before .before in
+    let at-if1 = at-gathered .before in
+    let known = at-if1 .before .before .before in
+    list-room _ _ (known .before .args .out .now) (at-if1 .if1 .left) (at-gathered .gathered .ensures)
+    (c .before .before .total .ensures) (c .before .if2 .left)
 
 same-length : tie.Need-same-length
 same-length c = c .before .before .put-entries .kept .0
 
 returns-3 : tie.Need-returns-3
-returns-3 c = list-entries _ _ _ (c .before .before .before .before .before .before .before .if1 .left) (c .before .before .before .before .before .before .gathered .ensures) (c .before .before .before .before .before .total .ensures) (c .before .before .before .before .if2 .left) (c .before .before .put-entries .ensures)
+returns-3 c =
+    let at-put-entries = c .before .before in
+    let at-total = at-put-entries .before .before .before in
+    list-entries _ _ _ (at-total .before .before .if1 .left) (at-total .before .gathered .ensures)
+    (at-total .total .ensures) (at-put-entries .before .before .if2 .left) (at-put-entries .put-entries .ensures)
 
 pub list-spec : {M : Type 1} → statement M
 list-spec =

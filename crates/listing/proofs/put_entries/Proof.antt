@@ -29,13 +29,21 @@ has-requires c κs = search needs
 
 put-entry-requires : tie.Need-put-entry-requires Inv-loop μ-loop
 unfolding inRows
-put-entry-requires c κs = put-fits (c .before .before .before .before .before .before .args .t2) _ _ _ _ (c .before .before .before .before .loop .inv) (c .before .before .before .loop-test .taken) (c .before .before .before .before .before .before .pre) (sym (c .before .before .has .ensures) ∙ c .before .if1 .taken)
+put-entry-requires c κs =
+    let at-loop-test = c .before .before .before in
+    let start = at-loop-test .before .before .before in
+    put-fits (start .args .t2) _ _ _ _ (at-loop-test .before .loop .inv) (at-loop-test .loop-test .taken) (start .pre)
+    (sym (c .before .before .has .ensures) ∙ c .before .if1 .taken)
 
 add-at : tie.Need-add-at Inv-loop μ-loop
 unfolding inRows
 add-at c =
-    let k = c .before .before .before .before .before .before .before .loop .inv in
-    omega (arith, k .long, put-fits (c .before .before .before .before .before .before .before .before .before .args .t2) _ _ _ _ k (c .before .before .before .before .before .before .loop-test .taken) (c .before .before .before .before .before .before .before .before .before .pre) (sym (c .before .before .before .before .before .has .ensures) ∙ c .before .before .before .before .if1 .taken) .0)
+    let putting = c .before .before .before in
+    let at-loop-test = putting .before .before .before in
+    let k = at-loop-test .before .loop .inv in
+    let start = at-loop-test .before .before .before in
+    let passes = sym (putting .before .before .has .ensures) ∙ putting .before .if1 .taken in
+    omega (arith, k .long, put-fits (start .args .t2) _ _ _ _ k (at-loop-test .loop-test .taken) (start .pre) passes .0)
 
 add-i : tie.Need-add-i Inv-loop μ-loop
 add-i c = search needs
@@ -46,8 +54,9 @@ loop-less c = search needs
 loop-again : tie.Need-loop-again Inv-loop μ-loop
 unfolding inRows
 loop-again c =
-    let x = c .before .before .before .before .before .args in
-    let k = c .before .before .before .loop .inv in
+    let at-loop = c .before .before .before in
+    let x = at-loop .before .before .args in
+    let k = at-loop .loop .inv in
     let l = c .before .before .loop-test .taken in
     let e = sym (c .before .has .ensures) in
     ⊎-elim (λ w. rw (w .5, w .6) (put-one (x .t2) _ _ _ _ k l (e ∙ w .0 .taken) (w .2 .ensures)))

@@ -17,10 +17,15 @@ is-occupied-requires : tie.Need-is-occupied-requires
 is-occupied-requires c κs = search needs
 
 delete-row-requires : tie.Need-delete-row-requires
-delete-row-requires c κs = site-size _ _ (c .before .before .before .site-of .ensures) (c .before .before .before .before .pre .0 .modify)
+delete-row-requires c κs =
+    let at-site-of = c .before .before .before in
+    site-size _ _ (at-site-of .site-of .ensures) (at-site-of .before .pre .0 .modify)
 
 returns : tie.Need-returns
-returns c = row-delete _ _ _ (c .before .before .before .before .before .pre .1) (c .before .before .before .before .site-of .ensures) (c .before .before .before .if1 .taken) (c .before .before .is-named .ensures) (c .before .is-occupied .ensures) (c .delete-row .ensures)
+returns c =
+    let at-if1 = c .before .before .before in
+    row-delete _ _ _ (at-if1 .before .before .pre .1) (at-if1 .before .site-of .ensures) (at-if1 .if1 .taken)
+    (c .before .before .is-named .ensures) (c .before .is-occupied .ensures) (c .delete-row .ensures)
 
 accepted-row-requires : tie.Need-accepted-row-requires
 accepted-row-requires c κs = site-size _ _ (c .before .site-of .ensures) (c .before .before .pre .0 .modify)

@@ -31,7 +31,12 @@ cast-n : tie.Need-cast-n Inv-loop μ-loop
 cast-n c = search needs
 
 add-n : tie.Need-add-n Inv-loop μ-loop
-add-n c = omega (arith, total-turn _ _ _ _ (c .before .before .loop .inv .1) (c .size .ensures), count-le ((c .before .before .loop .j + 1) * 64) (inRows (c .before .before .before .args .t1)))
+add-n c =
+    omega (
+      arith,
+      total-turn _ _ _ _ (c .before .before .loop .inv .1) (c .size .ensures),
+      count-le ((c .before .before .loop .j + 1) * 64) (inRows (c .before .before .before .args .t1)),
+    )
 
 add-j : tie.Need-add-j Inv-loop μ-loop
 add-j c = search needs

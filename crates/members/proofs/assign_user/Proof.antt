@@ -21,8 +21,10 @@ refused-requires c κs = search needs
 returns : tie.Need-returns
 unfolding assignUser
 returns c =
-    let x = c .before .before .before .before .before .args in
-    let e = c .before .before .assign-outcome .ensures ∙ ap (λ (v : View). first (assignRules v (x .b))) (c .before .before .before .user-view .ensures) in
+    let seen = c .before .before .before in
+    let x = seen .before .before .args in
+    let e = c .before .before .assign-outcome .ensures
+    ∙ ap (λ (v : View). first (assignRules v (x .b))) (seen .user-view .ensures) in
     rw (c .refused .ensures) (answer-refused _ _ _ _ e (c .before .if1 .taken))
 
 put-in-requires : tie.Need-put-in-requires
@@ -37,9 +39,14 @@ accepted-requires c κs = search needs
 returns-2 : tie.Need-returns-2
 unfolding assignUser
 returns-2 c =
-    let x = c .before .before .before .before .before .before .before .before .args in
-    let e = c .before .before .before .before .before .assign-outcome .ensures ∙ ap (λ (v : View). first (assignRules v (x .b))) (c .before .before .before .before .before .before .user-view .ensures) in
-    rw (c .accepted .ensures) (answer-accepted _ _ _ _ e (c .before .before .before .before .if1 .left) (c .before .with-users .ensures ∙ ap (withUsers (x .p)) (c .before .before .put-in .ensures)) refl)
+    let changed = c .before .before in
+    let decided = changed .before .before in
+    let seen = decided .before .before in
+    let x = seen .before .before .args in
+    let e = decided .before .assign-outcome .ensures
+    ∙ ap (λ (v : View). first (assignRules v (x .b))) (seen .user-view .ensures) in
+    let after = c .before .with-users .ensures ∙ ap (withUsers (x .p)) (changed .put-in .ensures) in
+    rw (c .accepted .ensures) (answer-accepted _ _ _ _ e (decided .if1 .left) after refl)
 
 pub assign-user-spec : {M : Type 1} → statement M
 assign-user-spec =

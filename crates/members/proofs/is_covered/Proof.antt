@@ -39,7 +39,9 @@ loop-less c = search needs
 
 loop-again : tie.Need-loop-again Inv-loop μ-loop
 unfolding covers
-loop-again c = (search needs, none-turn _ _ (c .before .before .before .before .before .loop .inv .1) (sym (c .before .row-covers .ensures) ∙ c .if1 .left))
+loop-again c =
+    let turn = c .before .before .before in
+    (search needs, none-turn _ _ (turn .before .before .loop .inv .1) (sym (c .before .row-covers .ensures) ∙ c .if1 .left))
 
 returns-2 : tie.Need-returns-2 Inv-loop μ-loop
 unfolding covered

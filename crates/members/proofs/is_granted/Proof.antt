@@ -35,7 +35,10 @@ row-satisfied-requires c κs = search needs
 
 returns : tie.Need-returns Inv-loop μ-loop
 unfolding granted covers
-returns c = found-any _ _ _ (search needs) (and-i _ _ (sym (c .before .before .before .row-covers .ensures) ∙ c .before .before .if1 .taken) (sym (c .before .row-satisfied .ensures) ∙ c .if2 .taken))
+returns c =
+    let covered-so = sym (c .before .before .before .row-covers .ensures) ∙ c .before .before .if1 .taken in
+    let satisfied-so = sym (c .before .row-satisfied .ensures) ∙ c .if2 .taken in
+    found-any _ _ _ (search needs) (and-i _ _ covered-so satisfied-so)
 
 add-i : tie.Need-add-i Inv-loop μ-loop
 add-i c = search needs
@@ -45,11 +48,11 @@ loop-less c = search needs
 
 loop-again : tie.Need-loop-again Inv-loop μ-loop
 unfolding covers
-loop-again c = (
-  search needs,
-  none-turn _ _ (c .before .before .before .before .before .loop .inv .1)
-      (⊎-elim (λ w. and-fails-r _ _ (sym (w .1 .ensures) ∙ w .2 .left)) (λ w. and-fails-l _ _ (sym (c .before .row-covers .ensures) ∙ w .left)) (c .if1 .came)),
-)
+loop-again c =
+    let turn = c .before .before .before in
+    let fails = ⊎-elim (λ w. and-fails-r _ _ (sym (w .1 .ensures) ∙ w .2 .left))
+    (λ w. and-fails-l _ _ (sym (c .before .row-covers .ensures) ∙ w .left)) (c .if1 .came) in
+    (search needs, none-turn _ _ (turn .before .before .loop .inv .1) fails)
 
 returns-2 : tie.Need-returns-2 Inv-loop μ-loop
 unfolding granted

@@ -21,8 +21,10 @@ refused-requires c κs = search needs
 returns : tie.Need-returns
 unfolding revokePermission
 returns c =
-    let x = c .before .before .before .before .before .args in
-    let e = c .before .before .revoke-outcome .ensures ∙ ap (λ (v : View). first (revokeRules v (x .b))) (c .before .before .before .permission-view .ensures) in
+    let seen = c .before .before .before in
+    let x = seen .before .before .args in
+    let e = c .before .before .revoke-outcome .ensures
+    ∙ ap (λ (v : View). first (revokeRules v (x .b))) (seen .permission-view .ensures) in
     rw (c .refused .ensures) (answer-refused _ _ _ _ e (c .before .if1 .taken))
 
 take-out-requires : tie.Need-take-out-requires
@@ -37,9 +39,13 @@ accepted-requires c κs = search needs
 returns-2 : tie.Need-returns-2
 unfolding revokePermission
 returns-2 c =
-    let x = c .before .before .before .before .before .before .before .args in
-    let e = c .before .before .before .before .revoke-outcome .ensures ∙ ap (λ (v : View). first (revokeRules v (x .b))) (c .before .before .before .before .before .permission-view .ensures) in
-    rw (c .accepted .ensures) (answer-accepted _ _ _ _ e (c .before .before .before .if1 .left) (c .before .with-permissions .ensures ∙ ap (withPermissions (x .p)) (c .before .before .take-out .ensures)) refl)
+    let decided = c .before .before .before in
+    let seen = decided .before .before in
+    let x = seen .before .before .args in
+    let e = decided .before .revoke-outcome .ensures
+    ∙ ap (λ (v : View). first (revokeRules v (x .b))) (seen .permission-view .ensures) in
+    let after = c .before .with-permissions .ensures ∙ ap (withPermissions (x .p)) (c .before .before .take-out .ensures) in
+    rw (c .accepted .ensures) (answer-accepted _ _ _ _ e (decided .if1 .left) after refl)
 
 pub revoke-permission-spec : {M : Type 1} → statement M
 revoke-permission-spec =

@@ -14,7 +14,8 @@ put-roles-requires c κs = search needs
 returns : tie.Need-returns
 returns c =
     let x = c .before .before .before .args in
-    c .put-roles .ensures ∙ ap (putRoles (x .m) (x .a)) (without-past _ _ _ (c .before .before .roles-of .ensures) (search needs) (c .before .if1 .taken))
+    c .put-roles .ensures
+    ∙ ap (putRoles (x .m) (x .a)) (without-past _ _ _ (c .before .before .roles-of .ensures) (search needs) (c .before .if1 .taken))
 
 without-requires : tie.Need-without-requires
 without-requires c κs = search needs
@@ -24,8 +25,10 @@ put-roles-requires-2 c κs = search needs
 
 returns-2 : tie.Need-returns-2
 returns-2 c =
-    let x = c .before .before .before .before .args in
-    c .put-roles2 .ensures ∙ ap (putRoles (x .m) (x .a)) (without-is _ _ _ (c .before .before .before .roles-of .ensures) _ (search needs) (c .before .without .ensures))
+    let found = c .before .before .before in
+    let x = found .before .args in
+    c .put-roles2 .ensures
+    ∙ ap (putRoles (x .m) (x .a)) (without-is _ _ _ (found .roles-of .ensures) _ (search needs) (c .before .without .ensures))
 
 pub take-out-spec : {M : Type 1} → statement M
 take-out-spec =

@@ -147,7 +147,10 @@ returns-5 c =
 
 make-row-requires-2 : tie.Need-make-row-requires-2
 make-row-requires-2 c κs =
-    let at-b = c .before .before .before .before .before .before .before .before .before .before in
+    let at-read-set2 = c .before .before .before in
+    let at-n = at-read-set2 .before .before in
+    let at-if1 = at-n .before .before .before in
+    let at-b = at-if1 .before .before in
     let at-read-count = at-b .before .before in
     omega (arith, count-most _ _ _ (sym (at-read-count .read-count .ensures) ∙ at-b .b .given .1))
 
