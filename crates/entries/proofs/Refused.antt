@@ -83,6 +83,10 @@ module _ (s : List ℕ) {r : ℕ} (n : apart r .outcome ≡ 0 → ⊥) where
 
 -- ---- A bad file: each entry answers its refusal, and answers 20 to 27 for nothing else.
 
+-- a file that was accepted was not refused
+pub not-bad : {A : Type 0} (s : List ℕ) {c p : ℕ} → readPolicy s .how ≡ Accepted → readPolicy s .how ≡ Refused c p → A
+not-bad s q t = absurd (let z : _≡_ {A = ℕ} 0 1 = cc in omega arith)
+
 -- an entry ends with the file's own refusal, or of a policy file with another outcome
 data Ending (s : List ℕ) (f : Fields) : Type 0 where
   bad : {c p : ℕ} → readPolicy s .how ≡ Refused c p → f ≡ refusal c p → Ending s f
@@ -96,7 +100,7 @@ bad-file s {r} w = record { then = λ c p q. then w q; only = λ l. only w l }
         let y : _≡_ {A = ℕ} d c = cc in
         let z : _≡_ {A = ℕ} k p = cc in
         rw (y, z) at e
-    then (good t l) q = absurd (let z : _≡_ {A = ℕ} 0 1 = cc in omega arith)
+    then (good t l) q = not-bad s t q
 
     only : Ending s (apart r) → 20 ≤ apart r .outcome → readPolicy s .how ≡ Refused (apart r .outcome) (apart r .place)
     only (bad t e) l = rw e t

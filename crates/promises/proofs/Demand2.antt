@@ -18,7 +18,7 @@ use Rattle.requests.proofs.Decided.{every-request, outcome-given}
 use Rattle.requests.proofs.Table.{given-below}
 use Rattle.number.specs.Number.{part}
 use Rattle.number.proofs.Stores.{sets-after}
-use Rattle.reading.specs.declared.How.the-variants.{Accepted, Refused}
+use Rattle.reading.specs.declared.How.the-variants.{Accepted}
 use Rattle.reading.specs.File.{readPolicy}
 use Rattle.reading.proofs.Theorems.{accepted-good}
 use Rattle.layout.specs.Layout.{policyBytes}
@@ -28,6 +28,7 @@ use Rattle.answers.specs.Answers.{fields, apart}
 use Rattle.answers.proofs.Laws.{outcome-of, length-of}
 use Rattle.entries.specs.Entries.{RequestOf}
 use Rattle.entries.proofs.Ends as ends
+use Rattle.entries.proofs.Refused.{not-bad}
 use Rattle.entries.proofs.Promised.{RequestDone, request-done, request-file}
 
 -- "Each accepted request gives exactly the policy that the rules define"
@@ -82,16 +83,13 @@ module _ {s : List ℕ} {x : Request} {o a : List ℕ} {r : ℕ} (w : RequestOf 
     after-is : {d : Answer} → d ≡ decide before x → length (policyBytes (d .policy)) ≡ length after
     after-is e = ap (λ (h : Answer). length (policyBytes (h .policy))) e
 
-    never-bad : {c p : ℕ} {A : Type 0} → readPolicy s .how ≡ Refused c p → A
-    never-bad t = absurd (let z : _≡_ {A = ℕ} 0 1 = cc in omega arith)
-
     -- 1 to 9: the first of the kind's refusals that holds is that number. `members/proofs/Numbers` and `hierarchy/proofs/Numbers` say of each kind
     -- and number what then holds
     pub refused-exactly : (n : ℕ) → 1 ≤ n → n ≤ 9 → eqb (apart r .outcome) n ≡ eqb given n
     refused-exactly n l m = by (ends.request-ends s x o w)
       where
         by : ends.RequestEnds s x o r a → eqb (apart r .outcome) n ≡ eqb given n
-        by (ends.bad-file t e b) = never-bad t
+        by (ends.bad-file t e b) = not-bad s ok t
         by (ends.refused t d k e b) = ap (λ (c : ℕ). eqb c n) (outcome-of e ∙ given-is d)
         by (ends.too-short t d y k e b) =
             ap (λ (c : ℕ). eqb c n) (outcome-of e) ∙ ne-eqb 10 n (λ q. omega arith)
@@ -103,7 +101,7 @@ module _ {s : List ℕ} {x : Request} {o a : List ℕ} {r : ℕ} (w : RequestOf 
     short-only z = by (ends.request-ends s x o w)
       where
         by : ends.RequestEnds s x o r a → (given ≡ 0) × (length o < length after)
-        by (ends.bad-file t e b) = never-bad t
+        by (ends.bad-file t e b) = not-bad s ok t
         by (ends.refused t d k e b) = absurd (omega (arith, outcome-of e, given-is d, given-small, z))
         by (ends.too-short t d y k e b) = (sym (given-is d) ∙ y, omega (arith, after-is d, k))
         by (ends.done t d y k e b) = absurd (omega (arith, outcome-of e, z))
@@ -112,7 +110,7 @@ module _ {s : List ℕ} {x : Request} {o a : List ℕ} {r : ℕ} (w : RequestOf 
     short-then g l = by (ends.request-ends s x o w)
       where
         by : ends.RequestEnds s x o r a → apart r .outcome ≡ 10
-        by (ends.bad-file t e b) = never-bad t
+        by (ends.bad-file t e b) = not-bad s ok t
         by (ends.refused t d k e b) = absurd (k (given-is d ∙ g))
         by (ends.too-short t d y k e b) = outcome-of e
         by (ends.done t d y k e b) = absurd (omega (arith, after-is d, k, l))
@@ -122,7 +120,7 @@ module _ {s : List ℕ} {x : Request} {o a : List ℕ} {r : ℕ} (w : RequestOf 
     accepted-only z = by (ends.request-ends s x o w)
       where
         by : ends.RequestEnds s x o r a → (given ≡ 0) × (length after ≤ length o)
-        by (ends.bad-file t e b) = never-bad t
+        by (ends.bad-file t e b) = not-bad s ok t
         by (ends.refused t d k e b) = absurd (k (sym (outcome-of e) ∙ z))
         by (ends.too-short t d y k e b) = absurd (omega (arith, outcome-of e, z))
         by (ends.done t d y k e b) = (sym (given-is d) ∙ y, omega (arith, after-is d, k))
@@ -131,7 +129,7 @@ module _ {s : List ℕ} {x : Request} {o a : List ℕ} {r : ℕ} (w : RequestOf 
     accepted-then g l = by (ends.request-ends s x o w)
       where
         by : ends.RequestEnds s x o r a → apart r .outcome ≡ 0
-        by (ends.bad-file t e b) = never-bad t
+        by (ends.bad-file t e b) = not-bad s ok t
         by (ends.refused t d k e b) = absurd (k (given-is d ∙ g))
         by (ends.too-short t d y k e b) = absurd (omega (arith, after-is d, k, l))
         by (ends.done t d y k e b) = outcome-of e
@@ -145,7 +143,7 @@ module _ {s : List ℕ} {x : Request} {o a : List ℕ} {r : ℕ} (w : RequestOf 
     outcome-decided l = by (ends.request-ends s x o w)
       where
         by : ends.RequestEnds s x o r a → apart r .outcome ≡ decide before x .outcome
-        by (ends.bad-file t e b) = never-bad t
+        by (ends.bad-file t e b) = not-bad s ok t
         by (ends.refused t d k e b) = outcome-of e ∙ ap (λ (h : Answer). h .outcome) d
         by (ends.too-short {d = d} t q y k e b) =
             absurd (omega (arith, k, l, after-is q, always-enough _ (every-request before x .good (accepted-good s ok))))

@@ -10,7 +10,7 @@ use Rattle.policy.specs.declared.Policy.{Policy}
 use Rattle.policy.specs.Question.{question, replyOutcome, replyValue}
 use Rattle.number.specs.Number.{part}
 use Rattle.number.proofs.Stores.{sets-after}
-use Rattle.reading.specs.declared.How.the-variants.{Accepted, Refused}
+use Rattle.reading.specs.declared.How.the-variants.{Accepted}
 use Rattle.reading.specs.File.{readPolicy}
 use Rattle.reading.proofs.Theorems.{refused-within}
 use Rattle.parts.specs.Parts.{isTable, partBytes}
@@ -23,6 +23,7 @@ use Rattle.answers.specs.Answers.{fields, apart, ofReply}
 use Rattle.answers.proofs.Laws.{outcome-of, place-of, length-of}
 use Rattle.entries.specs.Entries.{CheckOf, ListOf, QuestionOf, TableOf}
 use Rattle.entries.proofs.Ends as ends
+use Rattle.entries.proofs.Refused.{not-bad}
 use Rattle.entries.proofs.Promised.{listing-done}
 
 -- ---- the check
@@ -39,15 +40,12 @@ pub check-accepts : {s : List ℕ} {r : ℕ} → CheckOf s r → readPolicy s .h
 check-accepts {s} {r} w q = by (ends.check-ends s w)
   where
     by : ends.CheckEnds s r → apart r ≡ fields 0 0 0 0
-    by (ends.bad-file t e) = absurd (let z : _≡_ {A = ℕ} 0 1 = cc in omega arith)
+    by (ends.bad-file t e) = not-bad s q t
     by (ends.good-file t e) = e
 
 -- ---- the listing and the question, of a policy file
 
 module _ (s : List ℕ) (ok : readPolicy s .how ≡ Accepted) where
-  not-bad : {c p : ℕ} {A : Type 0} → readPolicy s .how ≡ Refused c p → A
-  not-bad t = absurd (let z : _≡_ {A = ℕ} 0 1 = cc in omega arith)
-
   module _ {officer : ℕ} {o a : List ℕ} {r : ℕ} (w : ListOf s officer o r a) where
     abbrev users : ℕ
     users = readPolicy s .policy .people .users .count
@@ -77,13 +75,13 @@ module _ (s : List ℕ) (ok : readPolicy s .how ≡ Accepted) where
     listing-unknown = (only (ends.listing-ends s officer o w), then (ends.listing-ends s officer o w))
       where
         only : ends.ListEnds s officer o r a → apart r .outcome ≡ 2 → users ≤ officer
-        only (ends.bad-file t e b) z = not-bad t
+        only (ends.bad-file t e b) z = not-bad s ok t
         only (ends.unknown t d l e b) z = omega (arith, users-are d, l)
         only (ends.too-short t d k l e b) z = absurd (omega (arith, outcome-of e, z))
         only (ends.done t d k l e b) z = absurd (omega (arith, outcome-of e, z))
 
         then : ends.ListEnds s officer o r a → users ≤ officer → apart r .outcome ≡ 2
-        then (ends.bad-file t e b) m = not-bad t
+        then (ends.bad-file t e b) m = not-bad s ok t
         then (ends.unknown t d l e b) m = outcome-of e
         then (ends.too-short t d k l e b) m = absurd (omega (arith, users-are d, k, m))
         then (ends.done t d k l e b) m = absurd (omega (arith, users-are d, k, m))
@@ -94,13 +92,13 @@ module _ (s : List ℕ) (ok : readPolicy s .how ≡ Accepted) where
     listing-short = (only (ends.listing-ends s officer o w), then (ends.listing-ends s officer o w))
       where
         only : ends.ListEnds s officer o r a → apart r .outcome ≡ 10 → (officer < users) × (length o < 3 * entries)
-        only (ends.bad-file t e b) z = not-bad t
+        only (ends.bad-file t e b) z = not-bad s ok t
         only (ends.unknown t d l e b) z = absurd (omega (arith, outcome-of e, z))
         only (ends.too-short t d k l e b) z = (omega (arith, users-are d, k), omega (arith, entries-are d, l))
         only (ends.done t d k l e b) z = absurd (omega (arith, outcome-of e, z))
 
         then : ends.ListEnds s officer o r a → officer < users → length o < 3 * entries → apart r .outcome ≡ 10
-        then (ends.bad-file t e b) m n = not-bad t
+        then (ends.bad-file t e b) m n = not-bad s ok t
         then (ends.unknown t d l e b) m n = absurd (omega (arith, users-are d, l, m))
         then (ends.too-short t d k l e b) m n = outcome-of e
         then (ends.done t d k l e b) m n = absurd (omega (arith, entries-are d, l, n))
@@ -110,7 +108,7 @@ module _ (s : List ℕ) (ok : readPolicy s .how ≡ Accepted) where
     listing-enough m n = by (ends.listing-ends s officer o w)
       where
         by : ends.ListEnds s officer o r a → apart r .outcome ≡ 0
-        by (ends.bad-file t e b) = not-bad t
+        by (ends.bad-file t e b) = not-bad s ok t
         by (ends.unknown t d l e b) = absurd (omega (arith, users-are d, l, m))
         by (ends.too-short {p = p} t d k l e b) = absurd (omega (arith, enough p officer, l, n))
         by (ends.done t d k l e b) = outcome-of e
@@ -122,7 +120,7 @@ module _ (s : List ℕ) (ok : readPolicy s .how ≡ Accepted) where
   question-answer {user} {permission} {r} w = by (ends.question-ends s user permission w)
     where
       by : ends.QuestionEnds s user permission r → apart r ≡ ofReply (question (readPolicy s .policy) user permission)
-      by (ends.bad-file t e) = not-bad t
+      by (ends.bad-file t e) = not-bad s ok t
       by (ends.unknown t d e) = e ∙ sym (ap ofReply d)
       by (ends.yes t d e) = e ∙ sym (ap ofReply d)
       by (ends.no t d e) = e ∙ sym (ap ofReply d)
