@@ -24,9 +24,6 @@ fits a b c d = record { outcome = a; number = b; place = c; length = d }
 pub outcome-of : {f g : Fields} → f ≡ g → f .outcome ≡ g .outcome
 outcome-of e = ap (λ (h : Fields). h .outcome) e
 
-pub number-of : {f g : Fields} → f ≡ g → f .number ≡ g .number
-number-of e = ap (λ (h : Fields). h .number) e
-
 pub place-of : {f g : Fields} → f ≡ g → f .place ≡ g .place
 place-of e = ap (λ (h : Fields). h .place) e
 

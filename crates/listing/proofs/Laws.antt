@@ -20,7 +20,7 @@ use Rattle.policy.specs.Outcome.{first}
 use Rattle.policy.proofs.Outcomes.{first-here}
 use Rattle.hierarchy.specs.declared.Site.{Site}
 use Rattle.hierarchy.specs.Rules.{site, named, someIn, deleteRules}
-use Rattle.requests.specs.Requests.{rulesOf}
+use Rattle.requests.specs.Requests.{ask, rulesOf}
 use Rattle.requests.proofs.Decided.{every-request}
 use lib.Seq.{sets}
 use Rattle.number.specs.Run.{each}
@@ -32,9 +32,9 @@ use Rattle.listing.specs.Sites.{siteOutcome}
 
 -- ---- acceptance by kind
 module _ (p : Policy) (o a b : ℕ) where
-  by-rules : (k : ℕ) → accepts p o k a b ≡ eqb (first (rulesOf p (record { officer = o; kind = k; a = a; b = b }))) 0
+  by-rules : (k : ℕ) → accepts p o k a b ≡ eqb (first (rulesOf p (ask o k a b))) 0
   unfolding accepts
-  by-rules k = ap (λ (n : ℕ). eqb n 0) (every-request p (record { officer = o; kind = k; a = a; b = b }) .outcome)
+  by-rules k = ap (λ (n : ℕ). eqb n 0) (every-request p (ask o k a b) .outcome)
 
   pub accepts-create : accepts p o 5 a b ≡ eqb (siteOutcome (site p o) 5 a b) 0
   unfolding rulesOf siteOutcome

@@ -22,7 +22,7 @@ use Rattle.hierarchy.specs.declared.Site.{Site}
 use Rattle.hierarchy.specs.Rules.{site, over, deleteRules}
 use Rattle.hierarchy.proofs.Accepted.{create-fits, delete-fits, insert-fits, cut-fits}
 use Rattle.safety.specs.Dominance.{mayChange, Kept, Outside}
-use Rattle.requests.specs.Requests.{decide, rulesOf}
+use Rattle.requests.specs.Requests.{ask, decide, rulesOf}
 use Rattle.requests.specs.Reached.{Reached}
 use Rattle.requests.proofs.Decided.{every-request, reached-good}
 use Rattle.requests.proofs.Safe.{create-safe, delete-safe, insert-safe, cut-safe}
@@ -133,11 +133,11 @@ enough p o =
         ∙ delete-zero p o a b (ap (λ (k : ℕ). accepts p o k a b) (sym (kind-six i l)) ∙ t)))
 
 -- ---- carrying out what is listed
-zero-of : (p : Policy) (o c a b : ℕ) → accepts p o c a b ≡ true → first (rulesOf p (record { officer = o; kind = c; a = a; b = b })) ≡ 0
+zero-of : (p : Policy) (o c a b : ℕ) → accepts p o c a b ≡ true → first (rulesOf p (ask o c a b)) ≡ 0
 unfolding accepts
-zero-of p o c a b u = sym (every-request p (record { officer = o; kind = c; a = a; b = b }) .outcome) ∙ eqb-true _ 0 u
+zero-of p o c a b u = sym (every-request p (ask o c a b) .outcome) ∙ eqb-true _ 0 u
 
-outcome-zero : (p : Policy) (o c a b : ℕ) → accepts p o c a b ≡ true → decide p (record { officer = o; kind = c; a = a; b = b }) .outcome ≡ 0
+outcome-zero : (p : Policy) (o c a b : ℕ) → accepts p o c a b ≡ true → decide p (ask o c a b) .outcome ≡ 0
 unfolding accepts
 outcome-zero p o c a b u = eqb-true _ 0 u
 
@@ -176,20 +176,20 @@ module _ (p : Policy) (o : ℕ) (g : Good p) where
 
   -- "Carrying out any of them leaves no cycle, every authority range encapsulated, no two overlapping in part; two roles keep their dominance
   -- unless both lie strictly inside one range this officer may modify."
-  pub listed-safe : {n k a b : ℕ} → InListing p o n k a b → Kept (site p o) (decide p (record { officer = o; kind = k; a = a; b = b }) .policy .orders .roles)
+  pub listed-safe : {n k a b : ℕ} → InListing p o n k a b → Kept (site p o) (decide p (ask o k a b) .policy .orders .roles)
   listed-safe {n} {k} {a} {b} h =
       let u = listed-accepted p o h in
-      four-kinds (λ c. accepts p o c a b ≡ true → Kept (site p o) (decide p (record { officer = o; kind = c; a = a; b = b }) .policy .orders .roles))
+      four-kinds (λ c. accepts p o c a b ≡ true → Kept (site p o) (decide p (ask o c a b) .policy .orders .roles))
       (λ t. create-safe p o a b g (outcome-zero p o 5 a b t)) (λ t. delete-safe p o a b g (outcome-zero p o 6 a b t))
       (λ t. insert-safe p o a b g (outcome-zero p o 7 a b t)) (λ t. cut-safe p o a b g (outcome-zero p o 8 a b t)) k (u .1 .least) (u .1 .most) (u .0)
 
   -- the policy after is good again, so that both orders are strict and all this holds of it too
-  pub listed-good : {n k a b : ℕ} → InListing p o n k a b → Good (decide p (record { officer = o; kind = k; a = a; b = b }) .policy)
-  listed-good {n} {k} {a} {b} h = every-request p (record { officer = o; kind = k; a = a; b = b }) .good g
+  pub listed-good : {n k a b : ℕ} → InListing p o n k a b → Good (decide p (ask o k a b) .policy)
+  listed-good {n} {k} {a} {b} h = every-request p (ask o k a b) .good g
 
 -- in every policy reached from a loaded one: it is good, so all of the above holds of it
 pub reached-listed : {start p : Policy} (o : ℕ) → Good start → Reached start p → {n k a b : ℕ} → InListing p o n k a b
-    → Kept (site p o) (decide p (record { officer = o; kind = k; a = a; b = b }) .policy .orders .roles)
+    → Kept (site p o) (decide p (ask o k a b) .policy .orders .roles)
 reached-listed o g r h = listed-safe _ o (reached-good g r) h
 
 -- ---- the assessor's second question
@@ -205,7 +205,7 @@ outside-second s x y h = any-fails _ _ (λ i l. not-so _ (λ t. clash (and-r _ _
 module _ (p : Policy) (o : ℕ) (g : Good p) {n k a b : ℕ} (h : InListing p o n k a b) (x y : ℕ)
     (ux : has (p .orders .roles .used) x ≡ true) (uy : has (p .orders .roles .used) y ≡ true) where
   abbrev after : Policy
-  after = decide p (record { officer = o; kind = k; a = a; b = b }) .policy
+  after = decide p (ask o k a b) .policy
 
   pub untouched : has (after .orders .roles .used) x ≡ true → has (after .orders .roles .used) y ≡ true → Outside (site p o) x ⊎ Outside (site p o) y
       → senior (after .orders .roles .juniors) x y ≡ senior (p .orders .roles .juniors) x y

@@ -10,14 +10,14 @@ use lib.Seq.{sets}
 use Rattle.sets.specs.Tests.{pick}
 use Rattle.sets.specs.Sets.{has, count, setOf}
 use Rattle.policy.specs.declared.Policy.{Policy}
-use Rattle.requests.specs.Requests.{decide}
+use Rattle.requests.specs.Requests.{ask, decide}
 use Rattle.number.specs.Run.{each}
 use Rattle.listing.specs.declared.Listed.{Listed}
 use Rattle.listing.specs.declared.Listed.the-variants.{Unknown, Short, Entries}
 
 -- the request would be accepted from the officer
 unfoldable pub accepts : Policy → ℕ → ℕ → ℕ → ℕ → Bool
-accepts p o kind a b = eqb (decide p (record { officer = o; kind = kind; a = a; b = b }) .outcome) 0
+accepts p o kind a b = eqb (decide p (ask o kind a b) .outcome) 0
 
 -- All requests of kinds 5 to 8 with roles below 64, ordered by kind, then a, then b: the kind, a and b of the one at place i. There are
 -- 4 times 64 times 64.

@@ -79,17 +79,13 @@ module _ {start file : List ℕ} (ok : readPolicy start .how ≡ Accepted) (way 
 
   -- "the listing holds exactly the create, delete-role, insert-edge and delete-edge requests that would be accepted"
 
-  -- what stands in it is a request of kinds 5 to 8 of roles below 64
-  pub listed-in-kinds : {n k x y : ℕ} → n < apart r .length → EntryIs a n k x y → InKinds k x y
-  listed-in-kinds l e = listed-accepted s officer (in-listing l e) .1
-
-  -- and it is accepted from this officer in any buffer that is long enough
+  -- what stands in it is a request of kinds 5 to 8 of roles below 64, and is accepted from this officer in any buffer that is long enough
   pub listed-accepted-by-entry : {n k x y : ℕ} → n < apart r .length → EntryIs a n k x y → {o′ a′ : List ℕ} {r′ : ℕ}
       → RequestOf file (ask officer k x y) o′ r′ a′ → 10375 ≤ length o′ → InKinds k x y × (apart r′ .outcome ≡ 0)
   unfolding accepts
   listed-accepted-by-entry {n} {k} {x} {y} l e v m =
-      let t = eqb-true _ 0 (listed-accepted s officer (in-listing l e) .0) in
-      (listed-in-kinds l e, room-enough v loaded (sym (every-request s (ask officer k x y) .outcome) ∙ t) m)
+      let h = listed-accepted s officer (in-listing l e) in
+      (h .1, room-enough v loaded (sym (every-request s (ask officer k x y) .outcome) ∙ eqb-true _ 0 (h .0)) m)
 
   -- and a request of kinds 5 to 8 that is accepted stands in it
   pub accepted-listed-by-entry : {k x y : ℕ} → 5 ≤ k → k ≤ 8 → {o′ a′ : List ℕ} {r′ : ℕ} → RequestOf file (ask officer k x y) o′ r′ a′

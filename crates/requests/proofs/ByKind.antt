@@ -21,7 +21,7 @@ every f [] (n ∷ l) = false
 every f (k ∷ m) [] = false
 every f (k ∷ m) (n ∷ l) = f k n and every f m l
 
--- the d-th kind and row pass; and where there is none, what stands in their place does
+-- the kind and the row at k pass; and where none stands there, what is taken for them does
 in-lists : (f : Kind → ℕ → Bool) (m : List Kind) (l : List ℕ) (c : Kind) (d : ℕ) → every f m l ≡ true → f c d ≡ true → (k : ℕ)
     → f (getD m k c) (getD l k d) ≡ true
 unfolding every
@@ -37,11 +37,11 @@ each-kind f t k = in-lists f kinds NUMBERS none 2 t (and-l _ _ t) k
 
 -- ---- a number that is none of 1 to n, in the form in which a `match` with those arms leaves it
 
-abbrev pub Rest : ℕ → ℕ → Type 0
-Rest zero k = Unit
-Rest (suc n) k = Rest n k × (k ≡ suc n → ⊥)
+abbrev pub NoneUpTo : ℕ → ℕ → Type 0
+NoneUpTo zero k = Unit
+NoneUpTo (suc n) k = NoneUpTo n k × (k ≡ suc n → ⊥)
 
-beyond : (n k : ℕ) → Rest n k → (k ≡ 0) ⊎ (n < k)
+beyond : (n k : ℕ) → NoneUpTo n k → (k ≡ 0) ⊎ (n < k)
 beyond zero zero r = inl refl
 beyond zero (suc k) r = inr (omega arith)
 beyond (suc n) k r = ⊎-elim (λ z. inl z) (λ l. inr (further l (r .1))) (beyond n k (r .0))
@@ -49,5 +49,5 @@ beyond (suc n) k r = ⊎-elim (λ z. inl z) (λ l. inr (further l (r .1))) (beyo
     further : n < k → (k ≡ suc n → ⊥) → suc n < k
     further l d = omega arith
 
-pub rest-none : (k : ℕ) → Rest 8 k → kindOf k ≡ none
+pub rest-none : (k : ℕ) → NoneUpTo 8 k → kindOf k ≡ none
 rest-none k r = ⊎-elim (λ z. ap kindOf z) (λ l. List·getD-eq-default kinds none l) (beyond 8 k r)

@@ -16,7 +16,7 @@ use Rattle.safety.specs.Dominance.{Kept}
 use Rattle.safety.proofs.Hierarchy.{good-site, create-kept, remove-kept, insert-kept, cut-kept}
 use Rattle.safety.proofs.Goodness.{ranges-free}
 use Rattle.requests.specs.declared.Request.{Request}
-use Rattle.requests.specs.Requests.{decide, rulesOf}
+use Rattle.requests.specs.Requests.{ask, decide, rulesOf}
 use Rattle.requests.proofs.Decided.{every-request}
 
 -- the order after an accepted request that changes the order of roles alone
@@ -29,7 +29,7 @@ module _ (p : Policy) (o a b : ℕ) (g : Good p) where
   moved n r k z h = subst (Kept (site p o)) (sym (order-after p n r k z)) h
 
   abbrev q : ℕ → Request
-  q k = record { officer = o; kind = k; a = a; b = b }
+  q k = ask o k a b
 
   accepted-first : (k : ℕ) → decide p (q k) .outcome ≡ 0 → first (rulesOf p (q k)) ≡ 0
   accepted-first k e = sym (every-request p (q k) .outcome) ∙ e

@@ -80,7 +80,7 @@ module _ (s : List ℕ) (roles admins : ℕ) {c p : ℕ} where
         (λ q. step-stopped _ _ q (row-fails at) (λ next r v q. not-stopped q), λ f. let v = row-stops at f in rw v)
 
     -- it is refused exactly if its count fails, or a number of a row
-    pub table-refused : (at : ℕ)
+    pub table-at-refused : (at : ℕ)
         → (tableAt s assign roles admins at ≡ stop c p) ↔ TableFails s assign roles admins at c p
     unfolding tableAt
-    table-refused at = each-refused s 64 (rowStep s assign roles admins) _ _ row-refused at
+    table-at-refused at = each-refused s 64 (rowStep s assign roles admins) _ _ row-refused at

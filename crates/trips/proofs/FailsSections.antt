@@ -106,9 +106,9 @@ module _ (s : List ℕ) {c p : ℕ} where
 
   -- ---- permissions: each of them, and all
   module _ (roles : ℕ) where
-    member-refused : (i at : ℕ) (a : Members) → (memberStep s roles i at a ≡ stop c p) ↔ SetFails s roles at c p
+    permission-refused : (i at : ℕ) (a : Members) → (memberStep s roles i at a ≡ stop c p) ↔ SetFails s roles at c p
     unfolding memberStep
-    member-refused i at a = (
+    permission-refused i at a = (
       λ q. num-stopped _ _ q (set-refused s _ _ .0) (λ x next v q. not-stopped q),
       λ f. let v = set-refused s _ _ .1 f in rw v,
     )
@@ -116,4 +116,4 @@ module _ (s : List ℕ) {c p : ℕ} where
     -- they are refused exactly if their count fails, or a role set
     pub members-refused : (at : ℕ) → (membersAt s roles at ≡ stop c p) ↔ MembersFails s roles at c p
     unfolding membersAt
-    members-refused at = each-refused s 256 (memberStep s roles) _ _ member-refused at
+    members-refused at = each-refused s 256 (memberStep s roles) _ _ permission-refused at

@@ -26,7 +26,7 @@ use Rattle.trips.specs.Refusals.{rolesOf, adminsOf}
 use Rattle.trips.proofs.Stops.{not-stopped, num-stopped, step-stopped}
 use Rattle.trips.proofs.FailsNumbers.{first-refused}
 use Rattle.trips.proofs.FailsSections.{order-refused, people-refused, members-refused}
-use Rattle.trips.proofs.FailsRows.{table-refused, ranges-refused}
+use Rattle.trips.proofs.FailsRows.{table-at-refused, ranges-refused}
 
 module _ (s : List ℕ) where
   -- ---- from what failed to the refusal
@@ -55,10 +55,10 @@ module _ (s : List ℕ) where
   refused-if (in-admins q t f) = let v = order-refused s _ _ .1 f in front-of (rw (q, t, v))
   refused-if (in-users q t u f) = let v = people-refused s _ _ _ .1 f in front-of (rw (q, t, u, v))
   refused-if (in-permissions q t u w f) = let v = members-refused s _ _ .1 f in front-of (rw (q, t, u, w, v))
-  refused-if (in-assign q f) = let v = table-refused s _ _ _ _ .1 f in rest-of q (rw v)
-  refused-if (in-revoke q t f) = let v = table-refused s _ _ _ _ .1 f in rest-of q (rw (t, v))
-  refused-if (in-assignp q t u f) = let v = table-refused s _ _ _ _ .1 f in rest-of q (rw (t, u, v))
-  refused-if (in-revokep q t u w f) = let v = table-refused s _ _ _ _ .1 f in rest-of q (rw (t, u, w, v))
+  refused-if (in-assign q f) = let v = table-at-refused s _ _ _ _ .1 f in rest-of q (rw v)
+  refused-if (in-revoke q t f) = let v = table-at-refused s _ _ _ _ .1 f in rest-of q (rw (t, v))
+  refused-if (in-assignp q t u f) = let v = table-at-refused s _ _ _ _ .1 f in rest-of q (rw (t, u, v))
+  refused-if (in-revokep q t u w f) = let v = table-at-refused s _ _ _ _ .1 f in rest-of q (rw (t, u, w, v))
   refused-if (in-modify q t u w x f) = let v = ranges-refused s _ _ _ .1 f in rest-of q (rw (t, u, w, x, v))
   refused-if (left-over q t l c p) = file-of (rw (q, t, lt-ltb _ _ l, c, p))
   refused-if (at-fault q t l c n p) = file-of (rw (q, t, le-ltb _ _ l, ne-eqb _ _ (λ z. n (c ∙ z)), c, p))
@@ -80,10 +80,10 @@ module _ (s : List ℕ) where
         → restAt s (rolesOf f) (adminsOf f) a ≡ stop c p → RefusedBy s c p
     unfolding restAt
     in-tables w q =
-        step-stopped _ _ q (λ r. in-assign w (table-refused s _ _ _ _ .0 r)) (λ b t v q.
-        step-stopped _ _ q (λ r. in-revoke w v (table-refused s _ _ _ _ .0 r)) (λ d u x q.
-        step-stopped _ _ q (λ r. in-assignp w v x (table-refused s _ _ _ _ .0 r)) (λ e o y q.
-        step-stopped _ _ q (λ r. in-revokep w v x y (table-refused s _ _ _ _ .0 r)) (λ g n z q.
+        step-stopped _ _ q (λ r. in-assign w (table-at-refused s _ _ _ _ .0 r)) (λ b t v q.
+        step-stopped _ _ q (λ r. in-revoke w v (table-at-refused s _ _ _ _ .0 r)) (λ d u x q.
+        step-stopped _ _ q (λ r. in-assignp w v x (table-at-refused s _ _ _ _ .0 r)) (λ e o y q.
+        step-stopped _ _ q (λ r. in-revokep w v x y (table-at-refused s _ _ _ _ .0 r)) (λ g n z q.
         step-stopped _ _ q (λ r. in-modify w v x y z (ranges-refused s _ _ _ .0 r)) (λ end m k q. not-stopped q)))))
 
     -- 27, and 23 to 26
