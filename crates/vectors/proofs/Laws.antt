@@ -1,7 +1,7 @@
 -- What a failed test says, what a refused file says, and where a policy's file stands once it is written.
 -- Assumes nothing.
 use Prim.Native.Nat.{ℕ, _-_, _≤_}
-use mathlib.Core.Path.{_≡_, refl, ap}
+use mathlib.Core.Path.{_≡_, refl, sym, ap, _∙_}
 use mathlib.Core.Bool.{true, false}
 use mathlib.Core.List.{List}
 use native.Mathlib.Omega.{arith}
@@ -18,6 +18,7 @@ use Rattle.writing.specs.declared.Written.{Written}
 use Rattle.writing.specs.declared.Written.the-variants.{Length}
 use Rattle.writing.specs.Writing.{Output, writtenLength}
 use Rattle.trips.proofs.Trips.{written-part}
+use Rattle.entries.proofs.Refused.{not-bad}
 
 -- a test that failed says nothing
 pub never : {A : Type 0} → false ≡ true → A
@@ -26,7 +27,7 @@ never e = clash e refl
 -- nor does acceptance, of a file that was refused
 pub not-accepted : (s : List ℕ) {A : Type 0} {l : Loaded} {c p : ℕ} → l ≡ readPolicy s → l .how ≡ Refused c p
     → readPolicy s .how ≡ Accepted → A
-not-accepted s e b q = absurd (let z : _≡_ {A = ℕ} 0 1 = cc (ap (λ (x : Loaded). x .how) e) in omega arith)
+not-accepted s e b q = not-bad s q (sym (ap (λ (x : Loaded). x .how) e) ∙ b)
 
 -- a good policy's file stands at the start of a buffer that has room for any
 pub written-start : (p : Policy) → Good p → (o : List ℕ) {r : Written} {a : List ℕ} {n : ℕ} → Output p o r a → r ≡ Length n
