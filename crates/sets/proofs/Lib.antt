@@ -3,3 +3,4 @@ pub mod Digits
 pub mod Quantifiers
 pub mod Builders
 pub mod Loops
+pub mod Members

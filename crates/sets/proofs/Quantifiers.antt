@@ -14,7 +14,7 @@ use mir.Val.{Fits}
 use mir.Syntax.{w64}
 use borrow.Author.Tests.{lt-ltb, le-ltb}
 use Rattle.sets.specs.Tests.{_and_, _or_, neg, pick}
-use Rattle.sets.specs.Sets.{has, all, any, count, least, lowestFree, size}
+use Rattle.sets.specs.Sets.{has, all, any, count, least, lowest, lowestFree, size}
 use Rattle.sets.proofs.Tests.{clash, not-so, same-test, and-i, and-l, and-r, or-l, or-r, or-cases, neg-e, neg-false}
 use Rattle.sets.proofs.Digits.{has-low, has-half, has-not, no-digit, lt-or-le}
 
@@ -225,6 +225,11 @@ trailing-at (suc w) s l = go (trailing-at w (s / 2)) (s % 2) (mod-lt s (zero-lt-
     go ih zero h e l = has-half s (s / 2) (trailingZeros w (s / 2)) refl ∙ ih (le-of-suc-le-suc l)
     go ih (suc zero) h e l = has-low s 1 e
     go ih (suc (suc d)) h e l = no-digit h
+
+-- they are as many as the lowest member's number
+pub trailing-member : (w s : ℕ) → trailingZeros w s ≡ lowest w s
+unfolding lowest
+trailing-member w s = least-is w (has s) (trailingZeros w s) (trailing-le w s) (trailing-at w s) (trailing-below w s)
 
 pub trailing-fits : (s : ℕ) → Fits w64 (trailingZeros 64 s)
 trailing-fits s = omega (arith, trailing-le 64 s)

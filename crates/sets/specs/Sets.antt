@@ -47,6 +47,10 @@ subset w s t = all w (λ n. has s n implies has t n)
 unfoldable pub agreeing : ℕ → ℕ → ℕ → ℕ → Bool
 agreeing w s t o = all w (λ n. has o n implies (has s n iff has t n))
 
+-- the lowest member of s below w, and w where there is none
+unfoldable pub lowest : ℕ → ℕ → ℕ
+lowest w s = least w (has s)
+
 -- the lowest number below w that is no member of s, and w where each is one
 unfoldable pub lowestFree : ℕ → ℕ → ℕ
 lowestFree w s = least w (λ n. neg (has s n))

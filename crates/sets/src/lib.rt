@@ -2,7 +2,7 @@
 ghost use mathlib.Core.Path.{_≡_};
 ghost use Prim.Native.Nat.{_<_};
 ghost use lib.Dec.{eqb};
-ghost use Rattle.sets.specs.Sets.{has, Exactly, subset, agreeing, lowestFree, size};
+ghost use Rattle.sets.specs.Sets.{has, Exactly, subset, agreeing, lowest, lowestFree, size};
 ghost use Rattle.sets.specs.Tests.{_and_, _or_, neg};
 
 // Is n a member of s?
@@ -80,6 +80,21 @@ pub fn agree(s: u64, t: u64, on: u64) -> bool
     ensures { λ r. ⌜ r ≡ agreeing 64 s t on ⌝ }
 {
     s & on == t & on
+}
+
+// The lowest member of s, 64 where there is none.
+pub fn lowest(s: u64) -> usize
+    ensures { λ r. ⌜ r ≡ lowest 64 s ⌝ }
+{
+    u64::trailing_zeros(s) as usize
+}
+
+// The set s without its lowest member: who goes through a set takes its members one by one so, in as many steps as it has.
+pub fn without_lowest(s: u64) -> u64
+    requires { ⌜ 0 < s ⌝ }
+    ensures { λ r. ⌜ (r < s) × Exactly r (λ m. has s m and neg (eqb m (lowest 64 s))) ⌝ }
+{
+    s & (s - 1)
 }
 
 // The lowest number that is no member of s: trailing zeros of the free set, 64 where none is free.
