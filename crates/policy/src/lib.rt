@@ -3,6 +3,7 @@ ghost use mathlib.Core.Path.{_≡_};
 ghost use lib.ListN.{length, getD};
 ghost use Rattle.order.specs.Order.{senior};
 ghost use Rattle.policy.specs.Build.{emptyOrder, emptyMembers, emptyRow, emptyTable, emptyRanges, emptyTables, emptyPolicy, putRoles, withRoles, withUsers, withPermissions};
+ghost use Rattle.policy.specs.Change.{usersAfter, permissionsAfter, changed};
 ghost use Rattle.policy.specs.Outcome.{refused, accepted};
 ghost use Rattle.policy.specs.Question.{mayExercise, question};
 use order::Order;
@@ -71,6 +72,26 @@ pub struct Answer {
     pub outcome: u64,
     pub number: u64,
     pub policy: Policy,
+}
+
+// The one part of a policy that a request touches.
+pub enum Touched {
+    // the roles of a user
+    User,
+    // the roles of a permission
+    Permission,
+    // the order of roles
+    Hierarchy,
+}
+
+// What a request decides, small enough to hand on: the outcome, the number beside it, what it touches, the roles that the user or permission has
+// after, and the order of roles after.
+pub struct Change {
+    pub outcome: u64,
+    pub number: u64,
+    pub touched: Touched,
+    pub roles: u64,
+    pub order: Order,
 }
 
 // The reply to the permission question: the user or the permission is unknown, or whether the user may exercise it.
@@ -199,6 +220,50 @@ pub fn with_permissions(p: Policy, permissions: Members) -> Policy
     let mut q = p;
     q.permissions = permissions;
     q
+}
+
+// The users after a change that was asked with member a.
+fn users_after(users: Members, a: u64, touched: Touched, roles: u64) -> Members
+    ensures { λ r. ⌜ r ≡ usersAfter touched users a roles ⌝ }
+{
+    match touched {
+        Touched::User => put_roles(users, a, roles),
+        Touched::Permission => users,
+        Touched::Hierarchy => users,
+    }
+}
+
+fn permissions_after(permissions: Members, a: u64, touched: Touched, roles: u64) -> Members
+    ensures { λ r. ⌜ r ≡ permissionsAfter touched permissions a roles ⌝ }
+{
+    match touched {
+        Touched::User => permissions,
+        Touched::Permission => put_roles(permissions, a, roles),
+        Touched::Hierarchy => permissions,
+    }
+}
+
+// The policy after a change, put together at this one place.
+pub fn changed(p: Policy, a: u64, c: Change) -> Policy
+    ensures { λ r. ⌜ r ≡ changed p a c ⌝ }
+{
+    let touched = c.touched;
+    let mut orders = p.orders;
+    let order = c.order;
+    orders.roles = order;
+    let mut people = p.people;
+    let users = users_after(people.users, a, touched, c.roles);
+    people.users = users;
+    let permissions = permissions_after(p.permissions, a, touched, c.roles);
+    let tables = p.tables;
+    let modify = p.modify;
+    Policy {
+        orders,
+        people,
+        permissions,
+        tables,
+        modify,
+    }
 }
 
 // A refusal leaves the policy unchanged, with number 0.
