@@ -13,6 +13,8 @@ use Rattle.policy.specs.declared.Row.{Row}
 use Rattle.policy.specs.declared.Table.{Table}
 use Rattle.policy.specs.declared.Tables.{Tables}
 use Rattle.policy.specs.declared.Answer.{Answer}
+use Rattle.policy.specs.declared.Touched.{Touched}
+use Rattle.policy.specs.declared.Change.{Change}
 use Rattle.policy.specs.Build.{emptyRow, putRoles, withUsers, withPermissions}
 use Rattle.policy.specs.Outcome.{Refusals, accept, refuse, first, answer}
 use Rattle.members.specs.declared.View.{View}
@@ -115,6 +117,15 @@ withRole mine b = setOf 64 (λ x. eqb x b or has mine x)
 
 unfoldable pub withoutRole : ℕ → ℕ → ℕ
 withoutRole mine b = setOf 64 (λ x. has mine x and neg (eqb x b))
+
+-- what kinds 1 and 3, and kinds 2 and 4, make of the user or permission of a view; the order of roles stays
+abbrev pub assigned : Touched → View → ℕ → Change
+assigned touched v b =
+    record { outcome = first (assignRules v b); number = 0; touched = touched; roles = withRole (v .mine) b; order = v .roles }
+
+abbrev pub revoked : Touched → View → ℕ → Change
+revoked touched v b =
+    record { outcome = first (revokeRules v b); number = 0; touched = touched; roles = withoutRole (v .mine) b; order = v .roles }
 
 -- kind 1: "put user a in role b"
 unfoldable pub assignUser : Policy → ℕ → ℕ → ℕ → Answer

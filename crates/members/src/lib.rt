@@ -7,25 +7,20 @@ ghost use Rattle.sets.specs.Tests.{_and_};
 ghost use Rattle.sets.specs.Sets.{has};
 ghost use Rattle.order.specs.Order.{senior, reached};
 ghost use Rattle.ranges.specs.Ranges.{inRange};
-ghost use Rattle.policy.specs.Build.{putRoles};
+ghost use Rattle.policy.specs.Change.{answered};
 ghost use Rattle.policy.specs.Good.{Sizes};
 ghost use Rattle.policy.specs.Outcome.{first};
-ghost use Rattle.members.specs.Rules.{userView, permissionView, satisfied, unknown, covered, granted, assignRules, revokeRules, withRole, withoutRole, assignUser, revokeUser, assignPermission, revokePermission};
+ghost use Rattle.members.specs.Rules.{userView, permissionView, satisfied, unknown, covered, granted, assignRules, revokeRules, withRole, withoutRole, assigned, revoked, assignUser, revokeUser, assignPermission, revokePermission};
 use order::Order;
 use order::reached;
-use policy::Answer;
-use policy::Members;
+use policy::Change;
 use policy::People;
 use policy::Policy;
 use policy::Row;
 use policy::Table;
-use policy::accepted;
+use policy::Touched;
 use policy::office_of;
-use policy::put_roles;
-use policy::refused;
 use policy::roles_of;
-use policy::with_permissions;
-use policy::with_users;
 use ranges::in_range;
 use sets::both;
 use sets::contains;
@@ -216,85 +211,87 @@ fn permission_view(p: Policy, table: Table, o: u64, a: u64) -> View
     }
 }
 
-// Member a with role b, and without it; a number that no role has changes nothing.
-fn put_in(m: Members, a: u64, b: u64) -> Members
-    ensures { λ r. ⌜ r ≡ putRoles m a (withRole (getD (m .roles) a 0) b) ⌝ }
+// The explicit roles with b, and without it; a number that no role has changes nothing.
+fn put_in(mine: u64, b: u64) -> u64
+    ensures { λ r. ⌜ r ≡ withRole mine b ⌝ }
 {
-    let mine = roles_of(m, a);
     if 64 <= b {
-        return put_roles(m, a, mine);
+        return mine;
     }
-    put_roles(m, a, with(mine, b as usize))
+    with(mine, b as usize)
 }
 
-fn take_out(m: Members, a: u64, b: u64) -> Members
-    ensures { λ r. ⌜ r ≡ putRoles m a (withoutRole (getD (m .roles) a 0) b) ⌝ }
+fn take_out(mine: u64, b: u64) -> u64
+    ensures { λ r. ⌜ r ≡ withoutRole mine b ⌝ }
 {
-    let mine = roles_of(m, a);
     if 64 <= b {
-        return put_roles(m, a, mine);
+        return mine;
     }
-    put_roles(m, a, without(mine, b as usize))
+    without(mine, b as usize)
+}
+
+// Kinds 1 and 3: the user or permission of the view is put in role b.
+fn assigned(view: View, b: u64, touched: Touched) -> Change
+    requires { ⌜ view .table .count ≤ 64 ⌝ }
+    ensures { λ r. ⌜ r ≡ assigned touched view b ⌝ }
+{
+    let order = view.roles;
+    Change {
+        outcome: assign_outcome(view, b),
+        number: 0,
+        touched,
+        roles: put_in(view.mine, b),
+        order,
+    }
+}
+
+// Kinds 2 and 4: it is taken out.
+fn revoked(view: View, b: u64, touched: Touched) -> Change
+    requires { ⌜ view .table .count ≤ 64 ⌝ }
+    ensures { λ r. ⌜ r ≡ revoked touched view b ⌝ }
+{
+    let order = view.roles;
+    Change {
+        outcome: revoke_outcome(view, b),
+        number: 0,
+        touched,
+        roles: take_out(view.mine, b),
+        order,
+    }
 }
 
 // Kind 1: put user a in role b.
-pub fn assign_user(p: Policy, o: u64, a: u64, b: u64) -> Answer
+pub fn assign_user(p: Policy, o: u64, a: u64, b: u64) -> Change
     requires { ⌜ Sizes p ⌝ }
-    ensures { λ r. ⌜ r ≡ assignUser p o a b ⌝ }
+    ensures { λ r. ⌜ answered p a r ≡ assignUser p o a b ⌝ }
 {
     let tables = p.tables;
-    let view = user_view(p, tables.assign, o, a);
-    let outcome = assign_outcome(view, b);
-    if outcome != 0 {
-        return refused(p, outcome);
-    }
-    let people = p.people;
-    let users = put_in(people.users, a, b);
-    accepted(with_users(p, users), 0)
+    assigned(user_view(p, tables.assign, o, a), b, Touched::User)
 }
 
 // Kind 2: take user a out of role b.
-pub fn revoke_user(p: Policy, o: u64, a: u64, b: u64) -> Answer
+pub fn revoke_user(p: Policy, o: u64, a: u64, b: u64) -> Change
     requires { ⌜ Sizes p ⌝ }
-    ensures { λ r. ⌜ r ≡ revokeUser p o a b ⌝ }
+    ensures { λ r. ⌜ answered p a r ≡ revokeUser p o a b ⌝ }
 {
     let tables = p.tables;
-    let view = user_view(p, tables.revoke, o, a);
-    let outcome = revoke_outcome(view, b);
-    if outcome != 0 {
-        return refused(p, outcome);
-    }
-    let people = p.people;
-    let users = take_out(people.users, a, b);
-    accepted(with_users(p, users), 0)
+    revoked(user_view(p, tables.revoke, o, a), b, Touched::User)
 }
 
 // Kind 3: put permission a in role b.
-pub fn assign_permission(p: Policy, o: u64, a: u64, b: u64) -> Answer
+pub fn assign_permission(p: Policy, o: u64, a: u64, b: u64) -> Change
     requires { ⌜ Sizes p ⌝ }
-    ensures { λ r. ⌜ r ≡ assignPermission p o a b ⌝ }
+    ensures { λ r. ⌜ answered p a r ≡ assignPermission p o a b ⌝ }
 {
     let tables = p.tables;
-    let view = permission_view(p, tables.assignp, o, a);
-    let outcome = assign_outcome(view, b);
-    if outcome != 0 {
-        return refused(p, outcome);
-    }
-    let permissions = put_in(p.permissions, a, b);
-    accepted(with_permissions(p, permissions), 0)
+    assigned(permission_view(p, tables.assignp, o, a), b, Touched::Permission)
 }
 
 // Kind 4: take permission a out of role b.
-pub fn revoke_permission(p: Policy, o: u64, a: u64, b: u64) -> Answer
+pub fn revoke_permission(p: Policy, o: u64, a: u64, b: u64) -> Change
     requires { ⌜ Sizes p ⌝ }
-    ensures { λ r. ⌜ r ≡ revokePermission p o a b ⌝ }
+    ensures { λ r. ⌜ answered p a r ≡ revokePermission p o a b ⌝ }
 {
     let tables = p.tables;
-    let view = permission_view(p, tables.revokep, o, a);
-    let outcome = revoke_outcome(view, b);
-    if outcome != 0 {
-        return refused(p, outcome);
-    }
-    let permissions = take_out(p.permissions, a, b);
-    accepted(with_permissions(p, permissions), 0)
+    revoked(permission_view(p, tables.revokep, o, a), b, Touched::Permission)
 }
