@@ -12,6 +12,13 @@ use Rattle.policy.specs.declared.Change.{Change}
 use Rattle.policy.specs.Build.{putRoles}
 use Rattle.policy.specs.Outcome.{refused, accepted}
 
+-- a refusal, and an accepted change of the order of roles
+abbrev pub unchanged : Order → ℕ → Change
+unchanged order n = record { outcome = n; number = 0; touched = Hierarchy; roles = 0; order = order }
+
+abbrev pub reordered : Order → ℕ → Change
+reordered order n = record { outcome = 0; number = n; touched = Hierarchy; roles = 0; order = order }
+
 abbrev pub usersAfter : Touched → Members → ℕ → ℕ → Members
 usersAfter User m a roles = putRoles m a roles
 usersAfter Permission m a roles = m

@@ -3,7 +3,7 @@ ghost use mathlib.Core.Path.{_≡_};
 ghost use lib.ListN.{length, getD};
 ghost use Rattle.order.specs.Order.{senior};
 ghost use Rattle.policy.specs.Build.{emptyOrder, emptyMembers, emptyRow, emptyTable, emptyRanges, emptyTables, emptyPolicy, putRoles, withRoles, withUsers, withPermissions};
-ghost use Rattle.policy.specs.Change.{usersAfter, permissionsAfter, changed};
+ghost use Rattle.policy.specs.Change.{unchanged, reordered, usersAfter, permissionsAfter, changed};
 ghost use Rattle.policy.specs.Outcome.{refused, accepted};
 ghost use Rattle.policy.specs.Question.{mayExercise, question};
 use order::Order;
@@ -220,6 +220,32 @@ pub fn with_permissions(p: Policy, permissions: Members) -> Policy
     let mut q = p;
     q.permissions = permissions;
     q
+}
+
+// A change that is refused: the order of roles is as it was, and nobody looks at more than the outcome.
+pub fn unchanged(order: Order, outcome: u64) -> Change
+    ensures { λ r. ⌜ r ≡ unchanged order outcome ⌝ }
+{
+    Change {
+        outcome,
+        number: 0,
+        touched: Touched::Hierarchy,
+        roles: 0,
+        order,
+    }
+}
+
+// A change of the order of roles.
+pub fn reordered(order: Order, number: u64) -> Change
+    ensures { λ r. ⌜ r ≡ reordered order number ⌝ }
+{
+    Change {
+        outcome: 0,
+        number,
+        touched: Touched::Hierarchy,
+        roles: 0,
+        order,
+    }
 }
 
 // The users after a change that was asked with member a.

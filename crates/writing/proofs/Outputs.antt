@@ -3,9 +3,11 @@
 use Prim.Native.Nat.{ℕ, _+_, _<_, _≤_}
 use mathlib.Core.Path.{_≡_, sym, _∙_, ap}
 use mathlib.Core.Logic.{_⊎_, inl, inr, ⊎-elim}
+use mathlib.Core.Bool.{Bool, true, false}
 use mathlib.Core.List.{List}
 use native.Mathlib.Omega.{arith}
-use borrow.Author.Tests.{lt-ltb, le-ltb}
+use borrow.Author.Tests.{lt-ltb, le-ltb, ltb-true, ltb-false}
+use lib.Dec.{ltb}
 use lib.ListN.{length, getD}
 use lib.Seq.{sets, length-sets}
 use Rattle.sets.proofs.Digits.{lt-or-le}
@@ -43,18 +45,23 @@ module _ (p : Policy) (o : List ℕ) where
 
   -- ---- as the code goes them
 
-  module _ {n : ℕ} (e : n ≡ length (policyBytes p)) where
-    pub output-short : length o < n → Output p o TooShort o
-    output-short h = let l : length o < length (policyBytes p) = omega arith in record { answer = sym (short-answer l); bytes = sym (short-bytes l) }
+  module _ {short : Bool} (e : short ≡ ltb (length o) (length (policyBytes p))) where
+    pub output-short : short ≡ true → Output p o TooShort o
+    output-short h =
+        let l = ltb-true (length o) (length (policyBytes p)) (sym e ∙ h) in
+        record { answer = sym (short-answer l); bytes = sym (short-bytes l) }
 
-    pub room-for : n ≤ length o → Room (policyBytes p) 0 o
-    room-for h = record { fits = omega arith }
+    module _ (h : short ≡ false) where
+      fits : length (policyBytes p) ≤ length o
+      fits = ltb-false (length o) (length (policyBytes p)) (sym e ∙ h)
 
-    pub output-long : {past : ℕ} {m : List ℕ} → n ≤ length o → Wrote (policyBytes p) 0 o past m → Output p o (Length past) m
-    output-long {past} h w =
-        let l : length (policyBytes p) ≤ length o = omega arith in
-        let q : past ≡ length (policyBytes p) = omega (arith, w .place) in
-        record { answer = ap Length q ∙ sym (long-answer l); bytes = w .bytes ∙ sym (long-bytes l) }
+      pub room-for : Room (policyBytes p) 0 o
+      room-for = record { fits = omega (arith, fits) }
+
+      pub output-long : {past : ℕ} {m : List ℕ} → Wrote (policyBytes p) 0 o past m → Output p o (Length past) m
+      output-long {past} w =
+          let q : past ≡ length (policyBytes p) = omega (arith, w .place) in
+          record { answer = ap Length q ∙ sym (long-answer fits); bytes = w .bytes ∙ sym (long-bytes fits) }
 
   -- ---- The answer and every byte follow from the inputs: two that meet the contract are equal.
   pub output-one : {r s : Written} {a b : List ℕ} → Output p o r a → Output p o s b → (r ≡ s) × (a ≡ b)

@@ -1,7 +1,10 @@
 // Writes the policy file, part by part, each directly after the part before it.
+ghost use mathlib.Core.Path.{_≡_};
 ghost use Prim.Native.Nat.{_≤_};
-ghost use Rattle.policy.specs.Good.{Sizes};
-ghost use Rattle.layout.specs.Layout.{tablesBytes, sectionsBytes, TableSizes};
+ghost use lib.Dec.{ltb};
+ghost use lib.ListN.{length};
+ghost use Rattle.policy.specs.Good.{Good};
+ghost use Rattle.layout.specs.Layout.{policyBytes, tablesBytes, sectionsBytes, TableSizes};
 ghost use Rattle.writers.specs.Writers.{Room, Wrote};
 ghost use Rattle.writing.specs.Writing.{Output};
 use layout::file_length;
@@ -56,12 +59,26 @@ fn write_sections(
     write_permissions(out, fourth, permissions)
 }
 
+// The file of any good policy fits so many bytes.
+const ENOUGH: usize = 10375;
+
+// Is the file longer than so many bytes? Where it never is, its bytes are not counted before they are written.
+fn is_short(p: Policy, room: usize) -> bool
+    requires { ⌜ Good p ⌝ }
+    ensures { λ r. ⌜ r ≡ ltb room (length (policyBytes p)) ⌝ }
+{
+    if ENOUGH <= room {
+        return false;
+    }
+    room < file_length(p)
+}
+
 // Writes the file of a policy from the start of the buffer, and nothing where it does not fit.
 pub fn write_policy(p: Policy, out: &mut [u8]) -> Written
-    requires { ⌜ Sizes p ⌝ }
+    requires { ⌜ Good p ⌝ }
     ensures { λ r. ⌜ Output p (now (out .entry)) r (now (out .exit)) ⌝ }
 {
-    if out.len() < file_length(p) {
+    if is_short(p, out.len()) {
         return Written::TooShort;
     }
     let orders = p.orders;

@@ -7,24 +7,24 @@ use borrow.Author.Needs.{needs}
 use Rattle.writing.proofs.write_policy.Statement.{statement}
 use Rattle.writing.proofs.write_policy.Tie as tie
 
-file-length-requires : tie.Need-file-length-requires
-file-length-requires c κs = search needs
+is-short-requires : tie.Need-is-short-requires
+is-short-requires c κs = search needs
 
 returns : tie.Need-returns
-returns c = output-short (c .before .before .before .args .p) _ (c .before .file-length .ensures) (c .if1 .taken)
+returns c = output-short (c .before .before .before .args .p) _ (c .before .is-short .ensures) (c .if1 .taken)
 
 write-sections-requires : tie.Need-write-sections-requires
 unfolding policyBytes
 write-sections-requires c κs =
     let start = c .before .before .before .before .before in
-    let room = room-for (start .args .p) (start .args .out .now) (c .before .before .before .file-length .ensures) (c .before .before .if1 .left) in
-    (start .pre .users, (start .pre .permissions, room-first _ _ room))
+    let room = room-for (start .args .p) (start .args .out .now) (c .before .before .before .is-short .ensures) (c .before .before .if1 .left) in
+    (start .pre .sizes .users, (start .pre .sizes .permissions, room-first _ _ room))
 
 sub-write-tables : tie.Need-sub-write-tables
 unfolding policyBytes
 sub-write-tables c =
     let start = c .before .before .before .before .before .before .before .before in
-    let room = room-for (start .args .p) (start .args .out .now) (c .before .before .before .before .before .before .file-length .ensures) (c .before .before .before .before .before .if1 .left) in
+    let room = room-for (start .args .p) (start .args .out .now) (c .before .before .before .before .before .before .is-short .ensures) (c .before .before .before .before .before .if1 .left) in
     let front = c .before .before .write-sections .ensures in
     rest-inside front _ room
 
@@ -32,7 +32,7 @@ part-write-tables-start : tie.Need-part-write-tables-start
 unfolding policyBytes
 part-write-tables-start c =
     let start = c .before .before .before .before .before .before .before .before in
-    let room = room-for (start .args .p) (start .args .out .now) (c .before .before .before .before .before .before .file-length .ensures) (c .before .before .before .before .before .if1 .left) in
+    let room = room-for (start .args .p) (start .args .out .now) (c .before .before .before .before .before .before .is-short .ensures) (c .before .before .before .before .before .if1 .left) in
     let front = c .before .before .write-sections .ensures in
     rest-inside front _ room
 
@@ -43,15 +43,15 @@ write-tables-requires : tie.Need-write-tables-requires
 unfolding policyBytes
 write-tables-requires c κs =
     let start = c .before .before .before .before .before .before .before .before .before in
-    let room = room-for (start .args .p) (start .args .out .now) (c .before .before .before .before .before .before .before .file-length .ensures) (c .before .before .before .before .before .before .if1 .left) in
+    let room = room-for (start .args .p) (start .args .out .now) (c .before .before .before .before .before .before .before .is-short .ensures) (c .before .before .before .before .before .before .if1 .left) in
     let front = c .before .before .before .write-sections .ensures in
-    (table-sizes _ (start .pre), room-rest front room)
+    (table-sizes _ (start .pre .sizes), room-rest front room)
 
 add-past : tie.Need-add-past
 unfolding policyBytes
 add-past c =
     let start = c .before .before .before .before .before .before .before .before .before .before .before .before in
-    let room = room-for (start .args .p) (start .args .out .now) (c .before .before .before .before .before .before .before .before .before .before .file-length .ensures) (c .before .before .before .before .before .before .before .before .before .if1 .left) in
+    let room = room-for (start .args .p) (start .args .out .now) (c .before .before .before .before .before .before .before .before .before .before .is-short .ensures) (c .before .before .before .before .before .before .before .before .before .if1 .left) in
     let front = c .before .before .before .before .before .before .write-sections .ensures in
     omega (arith, wrote-inside (wrote-rest front (c .before .before .write-tables .ensures)) room, start .good)
 
@@ -63,13 +63,13 @@ unfolding policyBytes
 returns-2 c =
     let start = c .before .before .before .before .before .before .before .before .before .before .before .before in
     let front = c .before .before .before .before .before .before .write-sections .ensures in
-    output-long (start .args .p) _ (c .before .before .before .before .before .before .before .before .before .before .file-length .ensures) (c .before .before .before .before .before .before .before .before .before .if1 .left) (wrote-rest front (c .before .before .write-tables .ensures))
+    output-long (start .args .p) _ (c .before .before .before .before .before .before .before .before .before .before .is-short .ensures) (c .before .before .before .before .before .before .before .before .before .if1 .left) (wrote-rest front (c .before .before .write-tables .ensures))
 
 pub write-policy-spec : {M : Type 1} → statement M
 write-policy-spec =
     tie.close
     (tie.spec
-    file-length-requires
+    is-short-requires
     returns
     write-sections-requires
     sub-write-tables
