@@ -1,23 +1,22 @@
 -- Orders as lists of sets: what a list made of a relation says, when two are one, and that the test of the code decides `Strict`.
 -- Assumes nothing.
 use mathlib.Core.Path.{_≡_, refl, sym, ap, _∙_, subst}
-use mathlib.Core.Logic.{_⊎_, ⊎-elim}
+use mathlib.Core.Logic.{⊎-elim}
 use mathlib.Core.Bool.{Bool, true, false}
 use mathlib.Core.List.{List}
 use Prim.Native.Nat.{ℕ, zero, suc, _+_, _≤_, _<_, _^_}
 use native.Mathlib.Nat.{not-suc-le-zero, le-of-suc-le-suc, add-zero, add-suc, suc-add, zero-add, eq-or-lt-of-le}
-use native.Mathlib.Numerals.{add-one}
 use native.Mathlib.Omega.{arith}
 use lib.ListN.{length, getD, set, length-set, List·getD-eq-default}
 use lib.Seq.{ext-getD, getD-set-same, getD-set-other}
 use borrow.Author.Tests.{ne-eqb}
-use Rattle.sets.specs.Tests.{_and_, _or_, neg}
+use Rattle.sets.specs.Tests.{_and_, neg}
 use Rattle.sets.specs.Sets.{has, any, setOf, subset, Exactly}
-use Rattle.sets.proofs.Tests.{by-test, same-test, clash, not-so, and-i, and-l, and-r, or-fails, or-fails-l, or-fails-r, neg-e, neg-false, and-fails-r, neg-fails}
+use Rattle.sets.proofs.Tests.{by-test, clash, not-so, and-i, and-l, and-r, or-fails, or-fails-l, or-fails-r, neg-e, neg-false, and-fails-r}
 use Rattle.sets.proofs.Digits.{has-empty, has-below, lt-or-le}
-use Rattle.sets.proofs.Quantifiers.{any-of, any-at, any-same, any-fails, any-none, least-is, least-below}
-use Rattle.sets.proofs.Builders.{setOf-lt, has-setOf, in-setOf, exactly-is, subset-lacks, subset-empty}
-use Rattle.order.specs.Order.{Relation, senior, hasSenior, atLeast, reaches, Strict, InUse, faulty, firstFault, tabFrom, relate}
+use Rattle.sets.proofs.Quantifiers.{any-at, any-same, any-fails, any-none, least-is, least-below}
+use Rattle.sets.proofs.Builders.{setOf-lt, has-setOf, in-setOf, exactly-is, subset-lacks}
+use Rattle.order.specs.Order.{Relation, senior, atLeast, reaches, Strict, InUse, faulty, firstFault, tabFrom, relate}
 use Rattle.order.specs.Rows.{Pairs}
 
 -- each row is a set of numbers below 64, which a `&[u64]` always gives
@@ -38,36 +37,6 @@ junior-below js rows a b e = has-below 64 (getD js a 0) b (rows a) e
 
 pub junior-past : (js : List ℕ) → Rows js → (a b : ℕ) → 64 ≤ b → senior js a b ≡ false
 junior-past js rows a b l = not-so _ (λ e. absurd (omega (arith, junior-below js rows a b e)))
-
--- a number that no role has has no seniors, and stands past the last of 64 entries
-pub seniors-past : (js above : List ℕ) → Rows js → length above ≡ 64 → (b : ℕ) → 64 ≤ b → Exactly (getD above b 0) (λ a. senior js a b)
-seniors-past js above rows e b l a =
-    ap (λ (s : ℕ). has s a) (List·getD-eq-default above 0 (subst (λ (n : ℕ). n ≤ b) (sym e) l)) ∙ has-empty a ∙ sym (junior-past js rows a b l)
-
--- ---- the rows joined: who has a senior among the first i
-pub Joined : List ℕ → ℕ → ℕ → Type 0
-Joined js s i = Exactly s (λ b. any i (λ a. senior js a b))
-
-pub join-begin : (js : List ℕ) → Joined js 0 0
-unfolding Joined any
-join-begin js b = has-empty b
-
-pub join-turn : (js : List ℕ) (s t i : ℕ) → Joined js s i → Exactly t (λ b. has s b or has (getD js i 0) b) → Joined js t (i + 1)
-unfolding Joined any senior
-join-turn js s t i h e b =
-    e b ∙ ap (λ (c : Bool). c or has (getD js i 0) b) (h b) ∙ ap (λ (n : ℕ). any n (λ a. has (getD js a 0) b)) (sym (add-one i))
-
-pub join-end : (js : List ℕ) (s i : ℕ) → length js ≤ i → i ≤ 64 → Joined js s i → Exactly s (hasSenior (senior js))
-unfolding Joined hasSenior
-join-end js s i l m h b =
-    h b
-    ∙ same-test _ _ (λ t. let r = any-at i _ t in any-of 64 _ (r .0) (omega (arith, r .1)) (r .2))
-    (λ t. let r = any-at 64 _ t in any-of i _ (r .0) (omega (arith, senior-row js (r .0) b (r .2))) (r .2))
-
-pub no-seniors : (js : List ℕ) → length js ≤ 64 → (b : ℕ) → hasSenior (senior js) b ≡ false → Exactly 0 (λ a. senior js a b)
-unfolding hasSenior
-no-seniors js l b e a =
-    has-empty a ∙ sym (⊎-elim (λ m. any-none 64 _ e a m) (λ m. senior-past js b a (omega arith)) (lt-or-le a 64))
 
 -- no member reaches a number that no role has
 pub reaches-past : (js : List ℕ) → Rows js → (set b : ℕ) → 64 ≤ b → reaches (senior js) set b ≡ false
@@ -103,7 +72,8 @@ senior-relate w f a b l m = ap (λ (s : ℕ). has s b) (row-relate w f a l) ∙ 
 pub rows-relate : (f : Relation) → Rows (relate 64 f)
 rows-relate f a =
     ⊎-elim (λ l. subst (λ (s : ℕ). s < 2 ^ 64) (sym (row-relate 64 f a l)) (setOf-lt 64 (f a)))
-    (λ l. subst (λ (s : ℕ). s < 2 ^ 64) (sym (List·getD-eq-default (relate 64 f) 0 (subst (λ (w : ℕ). w ≤ a) (sym (length-relate 64 f)) l))) (omega arith))
+    (λ l. subst (λ (s : ℕ). s < 2 ^ 64)
+    (sym (List·getD-eq-default (relate 64 f) 0 (subst (λ (w : ℕ). w ≤ a) (sym (length-relate 64 f)) l))) (omega arith))
     (lt-or-le a 64)
 
 -- a pair of the list is one of the relation, between numbers below the width
@@ -174,11 +144,6 @@ set-relate js a v f e rows l m here other =
         off-row x n = subst (λ (z : ℕ). z < 2 ^ 64) (sym (getD-set-other js a x v 0 n)) (rows x)
 
 -- ---- the test of the code
--- past the last row no set lacks anything
-pub lacks-past : (js : List ℕ) (row b : ℕ) → length js ≤ b → (has row b and neg (subset 64 (getD js b 0) row)) ≡ false
-lacks-past js row b l =
-    and-fails-r _ _ (neg-fails _ (ap (λ (s : ℕ). subset 64 s row) (List·getD-eq-default js 0 l) ∙ subset-empty 64 row))
-
 -- what `lacks_one` finds is the second half of `faulty`
 pub lacks-faulty : (js : List ℕ) (a : ℕ)
     → any 64 (λ b. has (getD js a 0) b and neg (subset 64 (getD js b 0) (getD js a 0)))
@@ -192,7 +157,8 @@ module _ (js : List ℕ) (rows : Rows js) (short : length js ≤ 64) where
   sound a e b c s t =
       neg-false (senior js a c) (not-so _ (λ n. clash
       (and-i _ _ t n)
-      (any-none 64 _ (not-so _ (λ q. clash (and-i _ _ s q) (any-none 64 _ (or-fails-r _ _ e) b (junior-below js rows a b s)))) c (junior-below js rows b c t))))
+      (any-none 64 _ (not-so _ (λ q. clash (and-i _ _ s q) (any-none 64 _ (or-fails-r _ _ e) b (junior-below js rows a b s))))
+      c (junior-below js rows b c t))))
 
   fine : firstFault js ≡ length js → (a : ℕ) → a < length js → faulty (senior js) a ≡ false
   unfolding firstFault

@@ -29,10 +29,6 @@ reaches f set b = any 64 (λ a. has set a and atLeast f a b)
 unfoldable pub reached : Relation → ℕ → ℕ
 reached f set = setOf 64 (reaches f set)
 
--- some role is senior to b
-unfoldable pub hasSenior : Relation → ℕ → Bool
-hasSenior f b = any 64 (λ a. f a b)
-
 -- a and b are equal or comparable
 unfoldable pub comparable : Relation → Relation
 comparable f a b = eqb a b or f a b or f b a

@@ -20,6 +20,10 @@ Spread juniors a gained r = Pairs r (λ x y. senior juniors x y or (atLeast (sen
 abbrev pub Dropped : List ℕ → ℕ → List ℕ → Type 0
 Dropped juniors a r = Pairs r (λ x y. senior juniors x y and neg (eqb y a))
 
+-- a has joined the seniors of each member of a set
+pub record Raised (before : List ℕ) (a row : ℕ) (after : List ℕ) : Type 0 where
+  pub seniors : (b : ℕ) → Exactly (getD after b 0) (λ x. (eqb x a and has row b) or has (getD before b 0) x)
+
 -- of each number the set of its seniors; a number that no role has has none
 pub record Above (juniors above : List ℕ) : Type 0 where
   pub seniors : (b : ℕ) → Exactly (getD above b 0) (λ a. senior juniors a b)

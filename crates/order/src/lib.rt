@@ -5,16 +5,18 @@ ghost use lib.Dec.{eqb};
 ghost use lib.ListN.{length, getD};
 ghost use Rattle.sets.specs.Tests.{_and_, _or_, neg};
 ghost use Rattle.sets.specs.Sets.{has, any, subset, Exactly};
-ghost use Rattle.order.specs.Order.{senior, hasSenior, atLeast, comparable, reaches, reached, faulty, firstFault, edge};
+ghost use Rattle.order.specs.Order.{senior, atLeast, comparable, reaches, reached, faulty, firstFault, edge};
 ghost use Rattle.order.specs.Effects.{create, remove, insert, cutEdge};
-ghost use Rattle.order.specs.Rows.{Spread, Dropped, Above};
+ghost use Rattle.order.specs.Rows.{Spread, Dropped, Raised, Above};
 use sets::both;
 use sets::has;
+use sets::lowest;
 use sets::only;
 use sets::subset;
 use sets::union;
 use sets::with;
 use sets::without;
+use sets::without_lowest;
 
 pub struct Order {
     pub used: u64,
@@ -70,29 +72,17 @@ pub fn seniors(juniors: &[u64], b: usize) -> u64
     set
 }
 
-// The set of all that are junior to some role.
-fn all_juniors(juniors: &[u64]) -> u64
-    requires { ⌜ length (now juniors) ≤ 64 ⌝ }
-    ensures { λ r. ⌜ Exactly r (hasSenior (senior (now (juniors .entry)))) ⌝ }
+// a, whose juniors are row, joins the seniors of each member of row.
+fn raise(above: &mut [u64], a: usize, row: u64)
+    requires { ⌜ (length (now above) ≡ 64) × (a < 64) ⌝ }
+    ensures { λ _. ⌜ Raised (now (above .entry)) a row (now (above .exit)) ⌝ }
 {
-    let mut set: u64 = 0;
-    let mut a = 0;
-    while a < juniors.len() {
-        set = union(set, juniors[a]);
-        a += 1;
+    let mut rest = row;
+    while rest != 0 {
+        let b = lowest(rest);
+        above[b] = with(above[b], a);
+        rest = without_lowest(rest);
     }
-    set
-}
-
-// The set of all seniors of b, where lower is the set of all that have one: few roles of a small order do.
-fn seniors_if_any(juniors: &[u64], lower: u64, b: usize) -> u64
-    requires { ⌜ (b < 64) × (length (now juniors) ≤ 64) × Exactly lower (hasSenior (senior (now juniors))) ⌝ }
-    ensures { λ r. ⌜ Exactly r (λ a. senior (now (juniors .entry)) a b) ⌝ }
-{
-    if !has(lower, b) {
-        return 0;
-    }
-    seniors(juniors, b)
 }
 
 // The set of all seniors of each role, so that who asks it of many roles finds it once.
@@ -100,12 +90,11 @@ pub fn all_seniors(juniors: &[u64]) -> [u64; 64]
     requires { ⌜ length (now juniors) ≡ 64 ⌝ }
     ensures { λ r. ⌜ Above (now (juniors .entry)) r ⌝ }
 {
-    let lower = all_juniors(juniors);
     let mut above: [u64; 64] = [0; 64];
-    let mut b = 0;
-    while b < 64 {
-        above[b] = seniors_if_any(juniors, lower, b);
-        b += 1;
+    let mut a = 0;
+    while a < 64 {
+        raise(&mut above, a, juniors[a]);
+        a += 1;
     }
     above
 }
@@ -134,13 +123,12 @@ pub fn reached(order: Order, set: u64) -> u64
     ensures { λ r. ⌜ r ≡ reached (senior (order .juniors)) set ⌝ }
 {
     let juniors = order.juniors;
-    let mut down: u64 = 0;
-    let mut b = 0;
-    while b < 64 {
-        if reaches(&juniors, set, b) {
-            down = with(down, b);
-        }
-        b += 1;
+    let mut down = set;
+    let mut rest = set;
+    while rest != 0 {
+        let a = lowest(rest);
+        down = union(down, juniors[a]);
+        rest = without_lowest(rest);
     }
     down
 }
@@ -187,14 +175,13 @@ fn lacks_one(juniors: &[u64], row: u64) -> bool
     requires { ⌜ length (now juniors) ≤ 64 ⌝ }
     ensures { λ r. ⌜ r ≡ any 64 (λ b. has row b and neg (subset 64 (getD (now (juniors .entry)) b 0) row)) ⌝ }
 {
-    let mut b = 0;
-    while b < juniors.len() {
-        if has(row, b) {
-            if !subset(juniors[b], row) {
-                return true;
-            }
+    let mut rest = row;
+    while rest != 0 {
+        let b = lowest(rest);
+        if !subset(juniors_of(juniors, b), row) {
+            return true;
         }
-        b += 1;
+        rest = without_lowest(rest);
     }
     false
 }

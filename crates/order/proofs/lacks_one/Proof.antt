@@ -1,51 +1,59 @@
-use Rattle.sets.proofs.Loops.{none-past, None, none-begin, none-turn, found-any}
-use Rattle.order.proofs.Lists.{lacks-past}
-use mathlib.Core.Logic.{⊎-elim}
-use Prim.Native.Nat.{_≤_, _-_}
+-- The loop takes the members of the row one by one: the row has all juniors of each that is taken.
+-- Assumes nothing.
+use mathlib.Core.Path.{_≡_}
+use mathlib.Core.Bool.{true}
+use lib.ListN.{getD}
 use borrow.Author.Tests.{not-true, not-false}
-use lib.ListN.{length, getD}
-use Rattle.sets.specs.Tests.{_and_, neg}
-use Rattle.sets.specs.Sets.{has, subset}
-use Rattle.sets.proofs.Tests.{and-i, and-fails-l, and-fails-r, neg-i, neg-fails}
+use Rattle.sets.specs.Sets.{subset}
+use Rattle.sets.proofs.Members.{Left, left-begin, left-turn}
+use Rattle.order.proofs.Loops.{left-member, lacks-found, lacks-none}
 use borrow.Author.Needs.{needs}
 use Rattle.order.proofs.lacks_one.Statement.{statement}
 use Rattle.order.proofs.lacks_one.Tie as tie
 
 abbrev Inv-loop : tie.InvT-loop
-Inv-loop juniors row b₀ b = (b ≤ length juniors) × None (λ x. has row x and neg (subset 64 (getD juniors x 0) row)) b
+Inv-loop juniors row rest₀ rest = Left (λ b. subset 64 (getD juniors b 0) row ≡ true) row rest
 
 abbrev μ-loop : tie.MeasureT-loop
-μ-loop juniors row b₀ b = length juniors - b
+μ-loop juniors row rest₀ rest = rest
 
 loop-holds : tie.Need-loop-holds Inv-loop μ-loop
-loop-holds c = (search needs, none-begin _)
+loop-holds c = left-begin _ _
 
-has-requires : tie.Need-has-requires Inv-loop μ-loop
-has-requires c κs = search needs
+lowest-requires : tie.Need-lowest-requires Inv-loop μ-loop
+lowest-requires c κs = search needs
 
-mul-subset : tie.Need-mul-subset Inv-loop μ-loop
-mul-subset c = search needs
-
-shared-slice-read-subset : tie.Need-shared-slice-read-subset Inv-loop μ-loop
-shared-slice-read-subset c = search needs
+juniors-of-requires : tie.Need-juniors-of-requires Inv-loop μ-loop
+juniors-of-requires c κs = search needs
 
 subset-requires : tie.Need-subset-requires Inv-loop μ-loop
 subset-requires c κs = search needs
 
 returns : tie.Need-returns Inv-loop μ-loop
-returns c = found-any 64 _ (c .before .before .before .before .before .before .loop .b) (search needs) (and-i _ _ (cc) (neg-i _ (cc (not-true (c .before .subset .result) (c .if2 .taken)))))
+returns c =
+    let at-lowest = c .before .before .before in
+    let at-loop = at-lowest .before .before in
+    let x = at-loop .before .before .args in
+    let inv = at-loop .loop .inv in
+    lacks-found (x .juniors .now) _ _ _ inv (search needs) (left-member 64 _ _ inv (search needs) (search needs))
+    (cc (not-true (c .before .subset .result) (c .if1 .taken)))
 
-add-b : tie.Need-add-b Inv-loop μ-loop
-add-b c = search needs
+without-lowest-requires : tie.Need-without-lowest-requires Inv-loop μ-loop
+without-lowest-requires c κs = search needs
 
 loop-less : tie.Need-loop-less Inv-loop μ-loop
-loop-less c = search needs
+loop-less c = c .without-lowest .ensures .0
 
 loop-again : tie.Need-loop-again Inv-loop μ-loop
-loop-again c = (search needs, none-turn _ _ (c .before .before .before .loop .inv .1) (⊎-elim (λ w. and-fails-r _ _ (neg-fails _ (cc (not-false (w .2 .result) (w .3 .left))))) (λ w. and-fails-l _ _ (cc)) (c .if1 .came)))
+loop-again c =
+    let at-subset = c .before .before in
+    let at-test = at-subset .before .before .before in
+    let at-loop = at-test .before in
+    left-turn _ _ _ _ _ _ (at-loop .loop .inv) (c .without-lowest .ensures .1) (λ n p. p)
+    (cc (not-false (at-subset .subset .result) (c .before .if1 .left)))
 
 returns-2 : tie.Need-returns-2 Inv-loop μ-loop
-returns-2 c = none-past _ _ _ _ (c .loop-test .left) (lacks-past (c .before .before .before .args .juniors .now) (c .before .before .before .args .row)) (c .before .loop .inv .1)
+returns-2 c = lacks-none (c .before .before .before .args .juniors .now) _ _ (c .before .loop .inv) (c .loop-test .left)
 
 pub lacks-one-spec : {M : Type 1} → statement M
 lacks-one-spec =
@@ -54,12 +62,11 @@ lacks-one-spec =
     Inv-loop
     μ-loop
     loop-holds
-    has-requires
-    mul-subset
-    shared-slice-read-subset
+    lowest-requires
+    juniors-of-requires
     subset-requires
     returns
-    add-b
+    without-lowest-requires
     loop-less
     loop-again
     returns-2)

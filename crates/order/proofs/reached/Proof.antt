@@ -1,56 +1,59 @@
-use native.Mathlib.Omega.{arith}
-use lib.ListN.{length, getD}
-use Prim.Native.Nat.{ℕ, _≤_, _-_}
-use mathlib.Core.Path.{_≡_}
-use mathlib.Core.Logic.{⊎-elim}
+-- The loop takes the members of the set one by one, and adds the juniors of each.
+-- Assumes nothing.
+use Prim.Native.Nat.{ℕ}
 use mir.Val.{Fits}
 use mir.Syntax.{w64}
-use Rattle.order.specs.Order.{senior, reaches}
-use Rattle.sets.proofs.Loops.{Gathered, gather-begin, gather-take, gather-skip, gather-end}
-use Rattle.sets.proofs.Builders.{exactly-set}
-use Rattle.order.proofs.Lists.{reaches-past}
+use lib.ListN.{getD}
+use native.Mathlib.Omega.{arith}
+use Rattle.order.proofs.Loops.{Reaching, reach-begin, reach-turn, reach-end, left-lowest, left-member}
 use borrow.Author.Needs.{needs}
 use Rattle.order.proofs.reached.Statement.{statement}
 use Rattle.order.proofs.reached.Tie as tie
 
 abbrev Inv-loop : tie.InvT-loop
-Inv-loop set juniors down₀ b₀ down b = (b ≤ 64) × Gathered (reaches (senior juniors) set) down b
+Inv-loop set juniors down₀ rest₀ down rest = Reaching juniors set down rest
 
 abbrev μ-loop : tie.MeasureT-loop
-μ-loop set juniors down₀ b₀ down b = 64 - b
+μ-loop set juniors down₀ rest₀ down rest = rest
 
 loop-holds : tie.Need-loop-holds Inv-loop μ-loop
-loop-holds c = (search needs, gather-begin _)
+loop-holds c = reach-begin _ _ (search needs)
 
-slice-aggregate-reaches : tie.Need-slice-aggregate-reaches Inv-loop μ-loop
-slice-aggregate-reaches c = search needs
+lowest-requires : tie.Need-lowest-requires Inv-loop μ-loop
+lowest-requires c κs = search needs
 
-reaches-requires : tie.Need-reaches-requires Inv-loop μ-loop
-reaches-requires c κs =
-    let n : length (c .before .before .before .before .args .order .juniors) ≡ 64 = search needs in
-    omega arith
+mul-union : tie.Need-mul-union Inv-loop μ-loop
+mul-union c =
+    let at-loop = c .before .before in
+    omega (arith, left-lowest 64 _ _ (at-loop .loop .inv .left) (search needs) (search needs))
 
-with-requires : tie.Need-with-requires Inv-loop μ-loop
-with-requires c κs = search needs
+array-read-union : tie.Need-array-read-union Inv-loop μ-loop
+array-read-union c =
+    let at-loop = c .before .before in
+    omega (arith, left-lowest 64 _ _ (at-loop .loop .inv .left) (search needs) (search needs))
 
-add-b : tie.Need-add-b Inv-loop μ-loop
-add-b c = search needs
+union-requires : tie.Need-union-requires Inv-loop μ-loop
+union-requires c κs = search needs
+
+without-lowest-requires : tie.Need-without-lowest-requires Inv-loop μ-loop
+without-lowest-requires c κs = search needs
 
 loop-less : tie.Need-loop-less Inv-loop μ-loop
-loop-less c = search needs
+loop-less c = c .without-lowest .ensures .0
 
 loop-again : tie.Need-loop-again Inv-loop μ-loop
 loop-again c =
-    let inv = c .before .before .before .before .loop .inv .1 in
-    (search needs, ⊎-elim (λ w. rw (w .2) (gather-take _ _ _ _ inv (w .1 .ensures) (cc))) (λ w. rw (w .1) (gather-skip _ _ _ inv (cc))) (c .if1 .came))
+    let at-lowest = c .before .before in
+    let at-loop = at-lowest .before .before in
+    let inv = at-loop .loop .inv in
+    reach-turn _ _ _ _ _ _ _ inv (search needs) (left-member 64 _ _ (inv .left) (search needs) (search needs))
+    (rw (at-lowest .lowest .ensures) at (c .before .union .ensures)) (c .without-lowest .ensures .1)
 
 returns : tie.Need-returns Inv-loop μ-loop
-unfolding Rattle.order.specs.Order.reached
 returns c =
     let x = c .before .before .before .args in
     let m : (i : ℕ) → Fits w64 (getD (x .order .juniors) i 0) = λ i. search needs in
-    let past = reaches-past (x .order .juniors) (λ i. m i .fits) (x .set) in
-    exactly-set 64 _ _ past (gather-end _ _ 64 _ (c .loop-test .left) past (c .before .loop .inv .1))
+    reach-end _ (λ i. m i .fits) _ _ _ (c .before .loop .inv) (c .loop-test .left)
 
 pub reached-spec : {M : Type 1} → statement M
 reached-spec =
@@ -59,10 +62,11 @@ reached-spec =
     Inv-loop
     μ-loop
     loop-holds
-    slice-aggregate-reaches
-    reaches-requires
-    with-requires
-    add-b
+    lowest-requires
+    mul-union
+    array-read-union
+    union-requires
+    without-lowest-requires
     loop-less
     loop-again
     returns)
