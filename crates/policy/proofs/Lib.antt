@@ -1,3 +1,4 @@
 pub mod Laws
 pub mod Outcomes
+pub mod Changes
 pub mod FirstLaws

@@ -1,0 +1,29 @@
+-- The answer that a change stands for.
+-- Assumes nothing.
+use mathlib.Core.Path.{_≡_, ap, _∙_}
+use Prim.Native.Nat.{ℕ}
+use borrow.Author.Tests.{eq-eqb, ne-eqb}
+use Rattle.order.specs.declared.Order.{Order}
+use Rattle.policy.specs.declared.Policy.{Policy}
+use Rattle.policy.specs.declared.Change.{Change}
+use Rattle.policy.specs.Build.{withRoles}
+use Rattle.policy.specs.Outcome.{refused, accepted}
+use Rattle.policy.specs.Change.{unchanged, reordered, changed, answered}
+
+module _ (p : Policy) (a : ℕ) (c : Change) where
+  pub answered-refused : (c .outcome ≡ 0 → ⊥) → answered p a c ≡ refused p (c .outcome)
+  unfolding answered
+  answered-refused z = rw (ne-eqb (c .outcome) 0 z)
+
+  pub answered-accepted : c .outcome ≡ 0 → answered p a c ≡ accepted (changed p a c) (c .number)
+  unfolding answered
+  answered-accepted z = rw (eq-eqb (c .outcome) 0 z)
+
+-- a change that is refused, and one of the order of roles
+module _ (p : Policy) (a : ℕ) {c : Change} {order : Order} {n : ℕ} where
+  pub unchanged-answer : c ≡ unchanged order n → (n ≡ 0 → ⊥) → answered p a c ≡ refused p n
+  unchanged-answer e z = ap (answered p a) e ∙ answered-refused p a (unchanged order n) z
+
+  pub reordered-answer : c ≡ reordered order n → answered p a c ≡ accepted (withRoles p order) n
+  unfolding answered
+  reordered-answer e = ap (answered p a) e
