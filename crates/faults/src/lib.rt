@@ -4,9 +4,12 @@ ghost use Prim.Native.Nat.{_≤_};
 ghost use lib.Dec.{ltb};
 ghost use Rattle.sets.specs.Tests.{_or_};
 ghost use Rattle.order.specs.Order.{senior};
+ghost use Rattle.order.specs.Rows.{Above};
 ghost use Rattle.ranges.specs.Rows.{firstFailing};
+ghost use Rattle.policy.specs.Outcome.{accept, refuse, first};
 ghost use Rattle.faults.specs.Faults.{notStrict, someLow, someOpen, twoOverlap, fault};
 use order::Order;
+use order::all_seniors;
 use order::first_fault;
 use policy::Orders;
 use policy::Ranges;
@@ -33,41 +36,60 @@ fn some_not_strict(orders: Orders) -> bool
 }
 
 // Does some can-modify row fail the test that is looked for?
-fn some_fails(order: Order, modify: Ranges, look: Look) -> bool
-    requires { ⌜ modify .count ≤ 64 ⌝ }
+fn some_fails(order: Order, seniors: &[u64], modify: Ranges, look: Look) -> bool
+    requires { ⌜ (modify .count ≤ 64) × Above (order .juniors) (now seniors) ⌝ }
     ensures { λ r. ⌜ r ≡ ltb (firstFailing look (order .used) (senior (order .juniors)) (modify .count) (modify .rows)) (modify .count) ⌝ }
 {
     let juniors = order.juniors;
     let rows = modify.rows;
     let count = modify.count;
-    first_failing(rows, count, look, order.used, &juniors) < count
+    first_failing(rows, count, look, order.used, &juniors, seniors) < count
 }
 
 // 24: a can-modify low is not junior to its high.
-fn some_low(order: Order, modify: Ranges) -> bool
-    requires { ⌜ modify .count ≤ 64 ⌝ }
+fn some_low(order: Order, seniors: &[u64], modify: Ranges) -> bool
+    requires { ⌜ (modify .count ≤ 64) × Above (order .juniors) (now seniors) ⌝ }
     ensures { λ r. ⌜ r ≡ someLow order modify ⌝ }
 {
-    some_fails(order, modify, Look::Low)
+    some_fails(order, seniors, modify, Look::Low)
 }
 
 // 25: a range is not encapsulated.
-fn some_open(order: Order, modify: Ranges) -> bool
-    requires { ⌜ modify .count ≤ 64 ⌝ }
+fn some_open(order: Order, seniors: &[u64], modify: Ranges) -> bool
+    requires { ⌜ (modify .count ≤ 64) × Above (order .juniors) (now seniors) ⌝ }
     ensures { λ r. ⌜ r ≡ someOpen order modify ⌝ }
 {
-    some_fails(order, modify, Look::Open)
+    some_fails(order, seniors, modify, Look::Open)
 }
 
 // 26: two ranges overlap in part.
-fn two_overlap(order: Order, modify: Ranges) -> bool
-    requires { ⌜ modify .count ≤ 64 ⌝ }
+fn two_overlap(order: Order, seniors: &[u64], modify: Ranges) -> bool
+    requires { ⌜ (modify .count ≤ 64) × Above (order .juniors) (now seniors) ⌝ }
     ensures { λ r. ⌜ r ≡ twoOverlap order modify ⌝ }
 {
     let juniors = order.juniors;
     let rows = modify.rows;
     let count = modify.count;
-    first_overlap(rows, count, &juniors) < count
+    first_overlap(rows, count, &juniors, seniors) < count
+}
+
+// 24, 25 and 26 in turn, or 0: the seniors of every role are found once for the three.
+fn ranges_fault(order: Order, modify: Ranges) -> u8
+    requires { ⌜ modify .count ≤ 64 ⌝ }
+    ensures { λ r. ⌜ r ≡ first (refuse (someLow order modify) 24 (refuse (someOpen order modify) 25 (refuse (twoOverlap order modify) 26 accept))) ⌝ }
+{
+    let juniors = order.juniors;
+    let seniors = all_seniors(&juniors);
+    if some_low(order, &seniors, modify) {
+        return 24;
+    }
+    if some_open(order, &seniors, modify) {
+        return 25;
+    }
+    if two_overlap(order, &seniors, modify) {
+        return 26;
+    }
+    0
 }
 
 // Why a file that is read to its end is refused, 23 to 26, or 0.
@@ -75,18 +97,8 @@ pub fn fault(orders: Orders, modify: Ranges) -> u8
     requires { ⌜ modify .count ≤ 64 ⌝ }
     ensures { λ r. ⌜ r ≡ fault orders modify ⌝ }
 {
-    let roles = orders.roles;
     if some_not_strict(orders) {
         return 23;
     }
-    if some_low(roles, modify) {
-        return 24;
-    }
-    if some_open(roles, modify) {
-        return 25;
-    }
-    if two_overlap(roles, modify) {
-        return 26;
-    }
-    0
+    ranges_fault(orders.roles, modify)
 }

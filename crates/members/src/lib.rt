@@ -7,7 +7,7 @@ ghost use Rattle.sets.specs.Tests.{_and_};
 ghost use Rattle.sets.specs.Sets.{has};
 ghost use Rattle.order.specs.Order.{senior, reached};
 ghost use Rattle.ranges.specs.Ranges.{inRange};
-ghost use Rattle.policy.specs.Change.{answered};
+ghost use Rattle.policy.specs.Change.{decided};
 ghost use Rattle.policy.specs.Good.{Sizes};
 ghost use Rattle.policy.specs.Outcome.{first};
 ghost use Rattle.members.specs.Rules.{userView, permissionView, satisfied, unknown, covered, granted, assignRules, revokeRules, withRole, withoutRole, assigned, revoked, assignUser, revokeUser, assignPermission, revokePermission};
@@ -263,7 +263,7 @@ fn revoked(view: View, b: u64, touched: Touched) -> Change
 // Kind 1: put user a in role b.
 pub fn assign_user(p: Policy, o: u64, a: u64, b: u64) -> Change
     requires { ⌜ Sizes p ⌝ }
-    ensures { λ r. ⌜ answered p a r ≡ assignUser p o a b ⌝ }
+    ensures { λ r. ⌜ decided p a r ≡ assignUser p o a b ⌝ }
 {
     let tables = p.tables;
     assigned(user_view(p, tables.assign, o, a), b, Touched::User)
@@ -272,7 +272,7 @@ pub fn assign_user(p: Policy, o: u64, a: u64, b: u64) -> Change
 // Kind 2: take user a out of role b.
 pub fn revoke_user(p: Policy, o: u64, a: u64, b: u64) -> Change
     requires { ⌜ Sizes p ⌝ }
-    ensures { λ r. ⌜ answered p a r ≡ revokeUser p o a b ⌝ }
+    ensures { λ r. ⌜ decided p a r ≡ revokeUser p o a b ⌝ }
 {
     let tables = p.tables;
     revoked(user_view(p, tables.revoke, o, a), b, Touched::User)
@@ -281,7 +281,7 @@ pub fn revoke_user(p: Policy, o: u64, a: u64, b: u64) -> Change
 // Kind 3: put permission a in role b.
 pub fn assign_permission(p: Policy, o: u64, a: u64, b: u64) -> Change
     requires { ⌜ Sizes p ⌝ }
-    ensures { λ r. ⌜ answered p a r ≡ assignPermission p o a b ⌝ }
+    ensures { λ r. ⌜ decided p a r ≡ assignPermission p o a b ⌝ }
 {
     let tables = p.tables;
     assigned(permission_view(p, tables.assignp, o, a), b, Touched::Permission)
@@ -290,7 +290,7 @@ pub fn assign_permission(p: Policy, o: u64, a: u64, b: u64) -> Change
 // Kind 4: take permission a out of role b.
 pub fn revoke_permission(p: Policy, o: u64, a: u64, b: u64) -> Change
     requires { ⌜ Sizes p ⌝ }
-    ensures { λ r. ⌜ answered p a r ≡ revokePermission p o a b ⌝ }
+    ensures { λ r. ⌜ decided p a r ≡ revokePermission p o a b ⌝ }
 {
     let tables = p.tables;
     revoked(permission_view(p, tables.revokep, o, a), b, Touched::Permission)

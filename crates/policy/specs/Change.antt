@@ -41,5 +41,5 @@ changed p a c =
     }
 
 -- the answer that a change stands for: "Each leaves the policy unchanged and returns number 0 beside it."
-unfoldable pub answered : Policy → ℕ → Change → Answer
-answered p a c = pick (eqb (c .outcome) 0) (accepted (changed p a c) (c .number)) (refused p (c .outcome))
+unfoldable pub decided : Policy → ℕ → Change → Answer
+decided p a c = pick (eqb (c .outcome) 0) (accepted (changed p a c) (c .number)) (refused p (c .outcome))

@@ -1,7 +1,7 @@
 -- The checks of all rows: two rows are looked at once, and number 9 is what the two walks find.
 -- Assumes nothing.
 use mathlib.Core.Path.{_≡_, refl, sym, ap, ap₂, _∙_, subst}
-use mathlib.Core.Logic.{_⊎_, ⊎-elim}
+use mathlib.Core.Logic.{⊎-elim}
 use mathlib.Core.Bool.{Bool, true, false, not}
 use mathlib.Core.List.{List}
 use Prim.Native.Nat.{ℕ, _+_, _≤_, _<_}
@@ -69,7 +69,7 @@ module _ (n : ℕ) (rows : List ModifyRow) (count : length (take n rows) ≡ n) 
 
 -- of two rows that overlap in part one is the later
 module _ (f : Relation) (count : ℕ) (rows : List ModifyRow) where
-  pairs-once : any count (λ i. any count (λ j. ltb i j and overlap f (rowAt rows i) (rowAt rows j)))
+  pub pairs-once : any count (λ i. any count (λ j. ltb i j and overlap f (rowAt rows i) (rowAt rows j)))
       ≡ any count (λ i. any count (λ j. overlap f (rowAt rows i) (rowAt rows j)))
   unfolding overlap
   pairs-once =

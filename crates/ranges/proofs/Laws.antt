@@ -3,18 +3,19 @@
 use mathlib.Core.Path.{_≡_, refl, sym, ap, ap₂, _∙_}
 use mathlib.Core.Bool.{Bool, true, false}
 use mathlib.Core.List.{List}
-use Prim.Native.Nat.{ℕ, _≤_, _<_}
+use Prim.Native.Nat.{ℕ, _^_, _≤_, _<_}
 use lib.Dec.{eqb}
 use borrow.Author.Tests.{lt-ltb, le-ltb}
 use lib.ListN.{getD}
 use Rattle.sets.specs.Tests.{_and_, _or_, neg, _implies_, _iff_}
-use Rattle.sets.specs.Sets.{has, all, Exactly, agreeing}
-use Rattle.sets.proofs.Tests.{and-fails-l, and-fails-r, and-given, or-given, implies-and, eqb-sym}
+use Rattle.sets.specs.Sets.{has, all, lowest, Exactly, agreeing}
+use Rattle.sets.proofs.Tests.{and-fails-l, and-fails-r, and-given, or-given, implies-i, implies-given, implies-and, eqb-sym}
 use Rattle.sets.proofs.Digits.{has-empty}
-use Rattle.sets.proofs.Quantifiers.{all-same, all-and, any-same}
+use Rattle.sets.proofs.Members.{Left, left-end, lowest-below, lowest-in}
+use Rattle.sets.proofs.Quantifiers.{all-of, all-fails, all-same, all-and, any-same}
 use Rattle.order.specs.Order.{Relation, senior, atLeast}
 use Rattle.order.specs.Rows.{Above}
-use Rattle.ranges.specs.Ranges.{inside, inRange, encapsulated, parted, overlapInPart}
+use Rattle.ranges.specs.Ranges.{inside, inRange, encapsulated, parted, partedByEnds, overlapInPart}
 use Rattle.ranges.specs.Rows.{upTo}
 
 -- with brackets 0 neither end is included
@@ -24,7 +25,8 @@ inside-is f low high r =
     ap₂ _and_ (or-given _ _ (and-fails-r _ _ (has-empty 0))) (or-given _ _ (and-fails-r _ _ (has-empty 1)))
 
 -- the seniors of low that are juniors of high
-pub set-inside : (js above : List ℕ) → Above js above → (low high r : ℕ) → (has (getD above low 0) r and has (getD js high 0) r) ≡ inside (senior js) low high r
+pub set-inside : (js above : List ℕ) → Above js above → (low high r : ℕ)
+    → (has (getD above low 0) r and has (getD js high 0) r) ≡ inside (senior js) low high r
 unfolding inside senior
 set-inside js above h low high r = ap (λ (b : Bool). b and has (getD js high 0) r) (h .seniors low r)
 
@@ -35,25 +37,50 @@ pub parted-split : (js ss : List ℕ) → Above js ss → (r outside above below
 unfolding parted agreeing senior
 parted-split js ss h r outside above below =
     all-same 64 _ _ (λ s l. implies-and (has outside s) _ _
-    ∙ ap (λ (b : Bool). (has outside s implies (b iff has above s)) and (has outside s implies (has (getD js r 0) s iff has below s))) (sym (h .seniors r s)))
+    ∙ ap (λ (b : Bool). (has outside s implies (b iff has above s)) and (has outside s implies (has (getD js r 0) s iff has below s)))
+    (sym (h .seniors r s)))
     ∙ all-and 64 _ _
 
--- the sets that `is_encapsulated` makes
-pub record Sides (used : ℕ) (f : Relation) (low high range outside above below : ℕ) : Type 0 where
-  pub range-is : Exactly range (inside f low high)
-  pub outside-is : Exactly outside (λ s. has used s and neg (inside f low high s))
-  pub above-is : (s : ℕ) → s < 64 → has above s ≡ atLeast f s high
-  pub below-is : (s : ℕ) → s < 64 → has below s ≡ atLeast f low s
+-- the two sets that `parted_by_ends` makes: what is above the range, and what is below it
+pub ends-parted : (f : Relation) (low high set outside above below : ℕ)
+    → ((s : ℕ) → s < 64 → has above s ≡ atLeast f s high) → ((s : ℕ) → s < 64 → has below s ≡ atLeast f low s)
+    → all 64 (λ r. has set r implies parted f r (has outside) (has above) (has below)) ≡ partedByEnds f low high set outside
+unfolding partedByEnds parted
+ends-parted f low high set outside above below over under =
+    all-same 64 _ _ (λ r l. ap (λ (t : Bool). has set r implies t)
+    (all-same 64 _ _ (λ s m. ap₂ (λ (b c : Bool). has outside s implies ((f s r iff b) and (f r s iff c))) (over s m) (under s m))))
 
-pub encapsulated-is : (used : ℕ) (f : Relation) (low high range outside above below : ℕ) → Sides used f low high range outside above below
-    → all 64 (λ r. has range r implies parted f r (has outside) (has above) (has below)) ≡ encapsulated used f low high
-unfolding encapsulated parted
-encapsulated-is used f low high range outside above below h =
-    all-same 64 _ _ (λ r l. ap₂ _implies_ (h .range-is r)
-    (all-same 64 _ _ (λ s m. ap₂ _implies_ (h .outside-is s) (ap₂ (λ (b c : Bool). (f s r iff b) and (f r s iff c)) (h .above-is s m) (h .below-is s m)))))
+-- a range is encapsulated exactly if its roles are parted so from those in use outside it
+pub encapsulated-is : (used : ℕ) (f : Relation) (low high range outside : ℕ)
+    → Exactly range (inside f low high) → Exactly outside (λ s. has used s and neg (has range s))
+    → partedByEnds f low high range outside ≡ encapsulated used f low high
+unfolding encapsulated partedByEnds parted
+encapsulated-is used f low high range outside range-is outside-is =
+    all-same 64 _ _ (λ r l. ap₂ _implies_ (range-is r)
+    (all-same 64 _ _ (λ s m. ap (λ (b : Bool). b implies ((f s r iff atLeast f s high) and (f r s iff atLeast f low s)))
+    (outside-is s ∙ ap (λ (b : Bool). has used s and neg b) (range-is s)))))
+
+-- ---- a loop through the members of a set, the lowest first, that tests each
+module _ (f : ℕ → Bool) (set : ℕ) where
+  -- those that are no longer left have passed
+  abbrev pub Passed : ℕ → Type 0
+  Passed rest = Left (λ n. f n ≡ true) set rest
+
+  -- the lowest that is left, by the number that the code has for it, is a member
+  next-member : (rest m : ℕ) → Passed rest → m ≡ lowest 64 rest → 0 < rest → rest < 2 ^ 64 → has set m ≡ true
+  next-member rest m h e l k = h .within m (rw e (lowest-in 64 rest l k))
+
+  pub passed-not : (rest m : ℕ) → Passed rest → m ≡ lowest 64 rest → 0 < rest → rest < 2 ^ 64 → f m ≡ false
+      → false ≡ all 64 (λ n. has set n implies f n)
+  passed-not rest m h e l k n =
+      sym (all-fails 64 _ m (rw e (lowest-below 64 rest l k)) (implies-given _ _ (next-member rest m h e l k) ∙ n))
+
+  pub passed-all : (rest : ℕ) → Passed rest → rest ≡ 0 → true ≡ all 64 (λ n. has set n implies f n)
+  passed-all rest h e = sym (all-of 64 _ (λ n l. implies-i _ _ (left-end _ _ rest h e n)))
 
 -- overlapping in part goes by who is in the two ranges
-pub overlap-same : (p p′ q q′ : ℕ → Bool) → ((r : ℕ) → p r ≡ p′ r) → ((r : ℕ) → q r ≡ q′ r) → overlapInPart p q ≡ overlapInPart p′ q′
+pub overlap-same : (p p′ q q′ : ℕ → Bool) → ((r : ℕ) → p r ≡ p′ r) → ((r : ℕ) → q r ≡ q′ r)
+    → overlapInPart p q ≡ overlapInPart p′ q′
 unfolding overlapInPart
 overlap-same p p′ q q′ e d =
     ap₂ _and_ (any-same 64 _ _ (λ r l. ap₂ _and_ (e r) (d r)))

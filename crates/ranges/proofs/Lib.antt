@@ -1,5 +1,7 @@
 pub mod Laws
 pub mod Checks
+pub mod Kept
+pub mod After
 pub mod Meaning
 pub mod Walk
 pub mod Lends

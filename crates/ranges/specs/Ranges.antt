@@ -28,7 +28,11 @@ encapsulated used f low high =
 unfoldable pub parted : Relation → ℕ → (ℕ → Bool) → (ℕ → Bool) → (ℕ → Bool) → Bool
 parted f r outside above below = all 64 (λ s. outside s implies ((f s r iff above s) and (f r s iff below s)))
 
--- the same as a statement
+-- each role of a set is parted so from the roles outside by the two ends of a range
+unfoldable pub partedByEnds : Relation → ℕ → ℕ → ℕ → ℕ → Bool
+partedByEnds f low high set outside = all 64 (λ r. has set r implies parted f r (has outside) (λ s. atLeast f s high) (atLeast f low))
+
+-- encapsulated, as a statement
 pub record Encapsulated (used : ℕ) (f : Relation) (low high : ℕ) : Type 0 where
   pub seniors : (r s : ℕ) → inside f low high r ≡ true → has used s ≡ true → inside f low high s ≡ false → f s r ≡ atLeast f s high
   pub juniors : (r s : ℕ) → inside f low high r ≡ true → has used s ≡ true → inside f low high s ≡ false → f r s ≡ atLeast f low s

@@ -12,8 +12,9 @@ first-overlap-requires c κs = search needs
 
 returns : tie.Need-returns
 returns c =
-    let at-args = c .before .before .before .before in
-    rw (c .first-overlap .ensures) (pair-found (at-args .args .order) (at-args .args .modify))
+    let at-lent = c .before .before in
+    let x = at-lent .before .before .before .args in
+    rw (c .first-overlap .ensures) (pair-found (x .order) (x .modify))
 
 pub two-overlap-spec : {M : Type 1} → statement M
 two-overlap-spec =

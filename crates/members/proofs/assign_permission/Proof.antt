@@ -1,7 +1,7 @@
 -- Assumes nothing.
 use mathlib.Core.Path.{ap, _∙_}
 use Rattle.policy.specs.Outcome.{answer}
-use Rattle.policy.specs.Change.{answered}
+use Rattle.policy.specs.Change.{decided}
 use Rattle.policy.specs.declared.Touched.the-variants.{Permission}
 use Rattle.members.specs.declared.View.{View}
 use Rattle.members.specs.Rules.{permissionView, assigned, assignPermission}
@@ -17,10 +17,10 @@ unfolding permissionView
 assigned-requires c κs = rw (c .permission-view .ensures) (c .before .before .pre .assignp)
 
 returns : tie.Need-returns
-unfolding answered answer permissionView assignPermission
+unfolding decided answer permissionView assignPermission
 returns c =
     let x = c .before .before .before .args in
-    ap (answered (x .p) (x .a))
+    ap (decided (x .p) (x .a))
     (c .assigned .ensures ∙ ap (λ (v : View). assigned Permission v (x .b)) (c .before .permission-view .ensures))
 
 pub assign-permission-spec : {M : Type 1} → statement M

@@ -1,7 +1,7 @@
 -- Assumes nothing.
 use mathlib.Core.Path.{ap, _∙_}
 use Rattle.policy.specs.Outcome.{answer}
-use Rattle.policy.specs.Change.{answered}
+use Rattle.policy.specs.Change.{decided}
 use Rattle.policy.specs.declared.Touched.the-variants.{Permission}
 use Rattle.members.specs.declared.View.{View}
 use Rattle.members.specs.Rules.{permissionView, revoked, revokePermission}
@@ -17,10 +17,10 @@ unfolding permissionView
 revoked-requires c κs = rw (c .permission-view .ensures) (c .before .before .pre .revokep)
 
 returns : tie.Need-returns
-unfolding answered answer permissionView revokePermission
+unfolding decided answer permissionView revokePermission
 returns c =
     let x = c .before .before .before .args in
-    ap (answered (x .p) (x .a))
+    ap (decided (x .p) (x .a))
     (c .revoked .ensures ∙ ap (λ (v : View). revoked Permission v (x .b)) (c .before .permission-view .ensures))
 
 pub revoke-permission-spec : {M : Type 1} → statement M

@@ -1,7 +1,7 @@
 -- Assumes nothing.
 use mathlib.Core.Path.{ap, _∙_}
 use Rattle.policy.specs.Outcome.{answer}
-use Rattle.policy.specs.Change.{answered}
+use Rattle.policy.specs.Change.{decided}
 use Rattle.policy.specs.declared.Touched.the-variants.{User}
 use Rattle.members.specs.declared.View.{View}
 use Rattle.members.specs.Rules.{userView, revoked, revokeUser}
@@ -17,10 +17,10 @@ unfolding userView
 revoked-requires c κs = rw (c .user-view .ensures) (c .before .before .pre .revoke)
 
 returns : tie.Need-returns
-unfolding answered answer userView revokeUser
+unfolding decided answer userView revokeUser
 returns c =
     let x = c .before .before .before .args in
-    ap (answered (x .p) (x .a))
+    ap (decided (x .p) (x .a))
     (c .revoked .ensures ∙ ap (λ (v : View). revoked User v (x .b)) (c .before .user-view .ensures))
 
 pub revoke-user-spec : {M : Type 1} → statement M

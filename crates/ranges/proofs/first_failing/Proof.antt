@@ -1,4 +1,4 @@
--- `ranges::failing_among` meets its contract: a walk of its MIR, by hand. The array passed is copied into a local, whose first n elements are lent as
+-- `ranges::first_failing` meets its contract: a walk of its MIR, by hand. The array passed is copied into a local, whose first n elements are lent as
 -- a slice, for a lifetime that is made for the call of `failing_row` and ended after it.
 -- All that the proof knows of `failing_row` is that it meets its contract.
 -- Assumes nothing.
@@ -60,10 +60,10 @@ use Rattle.ranges.proofs.failing_row as callee
 use Rattle.ranges.proofs.failing_row.Symbol as callee-def
 use Rattle.ranges.proofs.failing_row.Symbol.{name as #callee}
 use Rattle.ranges.proofs.failing_row.Met as callee-thm
-use Rattle.ranges.proofs.failing_among.Key.{name as #this}
-use Rattle.ranges.proofs.failing_among as this
-use Rattle.ranges.proofs.failing_among.Statement as stated
-use Rattle.ranges.proofs.failing_among.Code as code
+use Rattle.ranges.proofs.first_failing.Key.{name as #this}
+use Rattle.ranges.proofs.first_failing as this
+use Rattle.ranges.proofs.first_failing.Statement as stated
+use Rattle.ranges.proofs.first_failing.Code as code
 
 abbrev all : RattleType
 all = Array T.the-row 64
@@ -189,9 +189,9 @@ module _ {M : Type 1} (𝓤 : URA M) (H : Heap 𝓤) (A : Atoms 𝓤) (W : Given
         typed : Holds (hasTy (tyArray T′.mir 64) m) × WT m
         typed = array-typed T.the-row (LL.lawful T.the-type T′.the-laws 𝓤 H A W .typed) 64 rows (m ∷ []) is .0
 
-pub failing-among-spec : {M : Type 1} → stated.statement M
+pub first-failing-spec : {M : Type 1} → stated.statement M
 unfolding code.routine tablesOf
-failing-among-spec 𝓤 H 𝓜 𝓖 𝓡 =
+first-failing-spec 𝓤 H 𝓜 𝓖 𝓡 =
     entered 𝓤 H (tripleOf 𝓤 H (𝓖 .A) this.signature (this.spec 𝓤 H (𝓖 .A) (𝓜 .mem) (𝓡 .run)))
     (tables 𝓤 H 𝓜 𝓡 code.env .C) (tables 𝓤 H 𝓜 𝓡 code.env .Λ) #this code.function (code.unfolded 𝓤 H 𝓜 𝓡)
     (meets 𝓤 H (𝓖 .A) (givenOf 𝓤 H 𝓜 𝓖) this.ended (this.clauses 𝓤 H (𝓖 .A) (𝓜 .mem) (𝓡 .run)) (tablesOf 𝓤 H 𝓜 (tables 𝓤 H 𝓜 𝓡 code.env)) code.function

@@ -1,3 +1,5 @@
+-- The loop's invariant: no row before i overlaps a later one in part.
+-- Assumes nothing.
 use mathlib.Core.Path.{sym, _∙_}
 use Prim.Native.Nat.{_≤_, _-_}
 use lib.Dec.{ltb}
@@ -9,11 +11,12 @@ use Rattle.ranges.specs.Rows.{rowAt, within, overlap, firstOverlap}
 use Rattle.sets.proofs.Loops.{None, none-begin, none-turn, found-least, none-least}
 use Rattle.ranges.proofs.Checks.{later}
 use borrow.Author.Needs.{needs}
-use Rattle.ranges.proofs.overlap_among.Statement.{statement}
-use Rattle.ranges.proofs.overlap_among.Tie as tie
+use Rattle.ranges.proofs.first_overlap.Statement.{statement}
+use Rattle.ranges.proofs.first_overlap.Tie as tie
 
 abbrev Inv-loop : tie.InvT-loop
-Inv-loop count juniors seniors rows i₀ i = (i ≤ count) × None (λ k. any count (λ j. ltb k j and overlap (senior juniors) (rowAt rows k) (rowAt rows j))) i
+Inv-loop count juniors seniors rows i₀ i =
+    (i ≤ count) × None (λ k. any count (λ j. ltb k j and overlap (senior juniors) (rowAt rows k) (rowAt rows j))) i
 
 abbrev μ-loop : tie.MeasureT-loop
 μ-loop count juniors seniors rows i₀ i = count - i
@@ -38,7 +41,12 @@ overlap-from-requires c κs = search needs
 
 returns : tie.Need-returns Inv-loop μ-loop
 unfolding firstOverlap within
-returns c = found-least _ _ _ (search needs) (c .before .before .before .before .before .loop .inv .1) (sym (later _ _ _ _ _ (c .before .before .range-set .ensures)) ∙ lt-ltb _ _ (rw (c .before .overlap-from .ensures) at (c .if1 .taken)))
+returns c =
+    let at-call = c .before in
+    let at-range = at-call .before in
+    let at-loop = at-range .before .before .before in
+    found-least _ _ _ (search needs) (at-loop .loop .inv .1)
+    (sym (later _ _ _ _ _ (at-range .range-set .ensures)) ∙ lt-ltb _ _ (rw (at-call .overlap-from .ensures) at (c .if1 .taken)))
 
 add-i : tie.Need-add-i Inv-loop μ-loop
 add-i c = search needs
@@ -48,14 +56,21 @@ loop-less c = search needs
 
 loop-again : tie.Need-loop-again Inv-loop μ-loop
 unfolding within
-loop-again c = (search needs, none-turn _ _ (c .before .before .before .before .before .loop .inv .1) (sym (later _ _ _ _ _ (c .before .before .range-set .ensures)) ∙ le-ltb _ _ (rw (c .before .overlap-from .ensures) at (c .if1 .left))))
+loop-again c =
+    let at-call = c .before in
+    let at-range = at-call .before in
+    let at-loop = at-range .before .before .before in (
+      search needs,
+      none-turn _ _ (at-loop .loop .inv .1)
+          (sym (later _ _ _ _ _ (at-range .range-set .ensures)) ∙ le-ltb _ _ (rw (at-call .overlap-from .ensures) at (c .if1 .left))),
+    )
 
 returns-2 : tie.Need-returns-2 Inv-loop μ-loop
 unfolding firstOverlap
 returns-2 c = none-least _ _ _ (c .loop-test .left) (c .before .loop .inv .1)
 
-pub overlap-among-spec : {M : Type 1} → statement M
-overlap-among-spec =
+pub first-overlap-spec : {M : Type 1} → statement M
+first-overlap-spec =
     tie.close
     (tie.spec
     Inv-loop
