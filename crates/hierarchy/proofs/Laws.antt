@@ -2,6 +2,7 @@
 -- Assumes nothing.
 use mathlib.Core.Path.{_≡_, refl, sym, ap, _∙_, subst}
 use mathlib.Core.Bool.{Bool, true, false, not}
+use mathlib.Core.List.{List}
 use Prim.Native.Nat.{ℕ, _<_, _≤_, _^_}
 use lib.Arith.{lt-of-le-ne}
 use borrow.Author.Tests.{eq-eqb, ne-eqb, eqb-false}
@@ -12,11 +13,18 @@ use Rattle.sets.proofs.Digits.{has-below}
 use Rattle.sets.proofs.Quantifiers.{count-le, lowest-room}
 use Rattle.order.specs.declared.Order.{Order}
 use Rattle.order.specs.Order.{Relation}
-use Rattle.order.specs.Effects.{create}
+use Rattle.order.specs.Rows.{Above}
+use Rattle.order.specs.Effects.{create, insert, cutEdge}
+use Rattle.order.proofs.Converse.{create-converse, insert-converse, cut-converse}
 use Rattle.ranges.specs.declared.ModifyRow.{ModifyRow}
 use Rattle.ranges.specs.Rows.{within}
+use Rattle.ranges.specs.After.{SoundBefore}
+use Rattle.policy.specs.declared.Policy.{Policy}
+use Rattle.policy.specs.Good.{Good}
 use Rattle.hierarchy.specs.declared.Site.{Site}
-use Rattle.hierarchy.specs.Rules.{createIn, edgeIn, rowAllows, unknownRole, unknownPair, full, newRole, spoils, PairFits}
+use Rattle.hierarchy.specs.declared.Ground.{Ground}
+use Rattle.hierarchy.specs.Ground.{SoundSite, Stands}
+use Rattle.hierarchy.specs.Rules.{site, createIn, edgeIn, rowAllows, unknownRole, unknownPair, full, newRole, spoils, PairFits}
 
 -- what a row has, by kind
 module _ (kind : ℕ) (f : Relation) (a b : ℕ) (row : ModifyRow) where
@@ -102,3 +110,37 @@ pub spoils-created : (s : Site) (a b n : ℕ) (o : Order) → n ≡ lowestFree 6
     → spoils s (create (s .roles) (newRole s) a b) ≡ r
 unfolding newRole
 spoils-created s a b n o e q r h = ap (λ (m : ℕ). spoils s (create (s .roles) m a b)) (sym e) ∙ ap (spoils s) (sym q) ∙ sym h
+
+-- ---- what is known before a change
+
+-- what the check after a change asks for, where every range is known to be sound
+pub sound-before : (s : Site) (g : Ground) (after : Order) (upper : List ℕ) → s .modify .count ≤ 64 → Stands s g → Above (after .juniors) upper → g .sound ≡ true
+    → SoundBefore (s .modify .rows) (s .modify .count) (s .roles .used) (s .roles .juniors) (g .seniors) (after .juniors) upper
+sound-before s g after upper l st u e =
+    record {
+      few = l;
+      seniors-before = st .above;
+      seniors-after = u;
+      in-use = st .sound e .in-use;
+      sound = st .sound e .rows;
+    }
+
+-- the sites of a good policy are sound
+pub good-site : {s : Site} (p : Policy) (o : ℕ) → s ≡ site p o → Good p → SoundSite s
+unfolding site
+good-site p o e g = rw e (record { in-use = g .roles .in-use; rows = g .sound })
+
+-- the seniors after each effect, as the code finds them: t is the order before, turned
+module _ (s : Site) (g : Ground) (st : Stands s g) {t : Order} (e : t ≡ record { used = s .roles .used; juniors = g .seniors }) where
+  turned-above : Above (s .roles .juniors) (t .juniors)
+  turned-above = rw e (st .above)
+
+  module _ (a b : ℕ) {after above : Order} where
+    pub created-above : (n : ℕ) → after ≡ create (s .roles) n a b → above ≡ create t n b a → Above (after .juniors) (above .juniors)
+    created-above n q r = rw (q, r) (create-converse (s .roles) t turned-above n a b)
+
+    pub inserted-above : after ≡ insert (s .roles) a b → above ≡ insert t b a → Above (after .juniors) (above .juniors)
+    inserted-above q r = rw (q, r) (insert-converse (s .roles) t turned-above a b)
+
+    pub cut-above : after ≡ cutEdge (s .roles) a b → above ≡ cutEdge t b a → Above (after .juniors) (above .juniors)
+    cut-above q r = rw (q, r) (cut-converse (s .roles) t turned-above a b)

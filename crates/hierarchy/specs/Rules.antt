@@ -93,6 +93,10 @@ named t m a =
 unfoldable pub someIn : Members → ℕ → Bool
 someIn m a = any (m .count) (λ u. has (getD (m .roles) u 0) a)
 
+-- 7 or 8: what ties a role to the policy, so that it cannot go
+unfoldable pub tied : Policy → ℕ → Bool
+tied p a = named (p .tables) (p .modify) a or (someIn (p .people .users) a or someIn (p .permissions) a)
+
 -- what the tests of number 9 ask of their caller: at most 64 rows, and two roles below 64
 pub record PairFits (s : Site) (a b : ℕ) : Type 0 where
   pub rows : s .modify .count ≤ 64

@@ -1,16 +1,21 @@
 // Kinds 5 to 8: roles are created and deleted, edges inserted and deleted.
 ghost use mathlib.Core.Path.{_≡_};
+ghost use mathlib.Core.Bool.{true};
 ghost use Prim.Native.Nat.{_≤_, _<_};
 ghost use Rattle.order.specs.Effects.{create as createOrder, insert as insertOrder, cutEdge};
 ghost use lib.Dec.{eqb};
 ghost use Rattle.sets.specs.Tests.{_or_};
-ghost use Rattle.sets.specs.Sets.{has};
+ghost use Rattle.sets.specs.Sets.{has, setOf};
 ghost use Rattle.order.specs.Order.{senior};
+ghost use Rattle.order.specs.Rows.{Above};
 ghost use Rattle.ranges.specs.Rows.{within};
-ghost use Rattle.policy.specs.Good.{Sizes};
+ghost use Rattle.policy.specs.Good.{Sizes, Good};
+ghost use Rattle.policy.specs.Change.{decided};
 ghost use Rattle.policy.specs.Outcome.{first};
-ghost use Rattle.hierarchy.specs.Rules.{site, createIn, rowAllows, mayModify, unknownRole, unknownPair, spoils, rowNames, tableNames, rangesName, named, someIn, PairFits, full, newRole, createRules, deleteRules, insertRules, cutRules, createRole, deleteRole, insertEdge, deleteEdge};
+ghost use Rattle.hierarchy.specs.Ground.{SoundSite, Stands};
+ghost use Rattle.hierarchy.specs.Rules.{tied, site, createIn, rowAllows, mayModify, unknownRole, unknownPair, spoils, rowNames, tableNames, rangesName, named, someIn, PairFits, full, newRole, createRules, deleteRules, insertRules, cutRules, createRole, deleteRole, insertEdge, deleteEdge};
 use order::Order;
+use order::all_seniors;
 use order::create;
 use order::cut_edge;
 use order::insert;
@@ -20,24 +25,25 @@ use order::is_edge_in;
 use order::is_senior_in;
 use order::reached;
 use order::remove;
-use policy::Answer;
+use policy::Change;
 use policy::Members;
 use policy::Policy;
 use policy::Ranges;
 use policy::Row;
 use policy::Table;
 use policy::Tables;
-use policy::accepted;
 use policy::office_of;
-use policy::refused;
-use policy::with_roles;
+use policy::reordered;
+use policy::unchanged;
 use ranges::ModifyRow;
 use ranges::in_range;
 use ranges::is_unsound;
+use ranges::is_unsound_after;
 use sets::contains;
 use sets::has;
 use sets::lowest_free;
 use sets::size;
+use sets::with;
 
 // What kinds 5 to 8 look at, for an officer.
 pub struct Site {
@@ -145,14 +151,50 @@ fn is_unknown_pair(site: Site, a: u64, b: u64) -> bool
     !contains(order.used, b)
 }
 
-// Number 9: would some range be unsound in the order after?
-fn is_spoilt(site: Site, after: Order) -> bool
-    requires { ⌜ site .modify .count ≤ 64 ⌝ }
+// What is known of a site before a change, so that the many changes of a listing are tested against it.
+pub struct Ground {
+    // of each role its seniors
+    pub seniors: [u64; 64],
+    // whether every range is known to be sound; where it is not, each change is tested whole
+    pub sound: bool,
+}
+
+pub fn ground_of(site: Site, sound: bool) -> Ground
+    requires { ⌜ (sound ≡ true → SoundSite site) ⌝ }
+    ensures { λ r. ⌜ Stands site r ⌝ }
+{
+    let order = site.roles;
+    let juniors = order.juniors;
+    let seniors = all_seniors(&juniors);
+    Ground { seniors, sound }
+}
+
+// The order before as the juniors see it: who is senior is junior. A change of it with both ends exchanged finds the seniors after.
+fn turned(site: Site, ground: Ground) -> Order
+    ensures { λ r. ⌜ r ≡ record { used = site .roles .used; juniors = ground .seniors } ⌝ }
+{
+    let order = site.roles;
+    let juniors = ground.seniors;
+    Order {
+        used: order.used,
+        juniors,
+    }
+}
+
+// Number 9: would some range be unsound in the order after? Its seniors stand in the same order, turned.
+fn is_spoilt(site: Site, ground: Ground, after: Order, above: Order) -> bool
+    requires { ⌜ (site .modify .count ≤ 64) × Stands site ground × Above (after .juniors) (above .juniors) ⌝ }
     ensures { λ r. ⌜ r ≡ spoils site after ⌝ }
 {
     let modify = site.modify;
     let rows = modify.rows;
-    is_unsound(rows, modify.count, after)
+    let count = modify.count;
+    if !ground.sound {
+        return is_unsound(rows, count, after);
+    }
+    let seniors = ground.seniors;
+    let upper = above.juniors;
+    is_unsound_after(rows, count, site.roles, seniors, after, upper)
 }
 
 // Number 6.
@@ -164,31 +206,35 @@ fn is_full(site: Site) -> bool
 }
 
 // Number 9, by kind.
-fn create_spoils(site: Site, a: usize, b: usize) -> bool
-    requires { ⌜ PairFits site a b × (newRole site < 64) ⌝ }
+fn create_spoils(site: Site, ground: Ground, a: usize, b: usize) -> bool
+    requires { ⌜ PairFits site a b × (newRole site < 64) × Stands site ground ⌝ }
     ensures { λ r. ⌜ r ≡ spoils site (createOrder (site .roles) (newRole site) a b) ⌝ }
 {
     let order = site.roles;
-    is_spoilt(site, create(order, lowest_free(order.used), a, b))
+    let n = lowest_free(order.used);
+    let after = create(order, n, a, b);
+    is_spoilt(site, ground, after, create(turned(site, ground), n, b, a))
 }
 
-fn insert_spoils(site: Site, a: usize, b: usize) -> bool
-    requires { ⌜ PairFits site a b ⌝ }
+fn insert_spoils(site: Site, ground: Ground, a: usize, b: usize) -> bool
+    requires { ⌜ PairFits site a b × Stands site ground ⌝ }
     ensures { λ r. ⌜ r ≡ spoils site (insertOrder (site .roles) a b) ⌝ }
 {
-    is_spoilt(site, insert(site.roles, a, b))
+    let after = insert(site.roles, a, b);
+    is_spoilt(site, ground, after, insert(turned(site, ground), b, a))
 }
 
-fn cut_spoils(site: Site, a: usize, b: usize) -> bool
-    requires { ⌜ PairFits site a b ⌝ }
+fn cut_spoils(site: Site, ground: Ground, a: usize, b: usize) -> bool
+    requires { ⌜ PairFits site a b × Stands site ground ⌝ }
     ensures { λ r. ⌜ r ≡ spoils site (cutEdge (site .roles) a b) ⌝ }
 {
-    is_spoilt(site, cut_edge(site.roles, a, b))
+    let after = cut_edge(site.roles, a, b);
+    is_spoilt(site, ground, after, cut_edge(turned(site, ground), b, a))
 }
 
 // Kind 5: the first refusal that holds, or 0.
-pub fn create_outcome(site: Site, a: u64, b: u64) -> u64
-    requires { ⌜ site .modify .count ≤ 64 ⌝ }
+pub fn create_outcome(site: Site, ground: Ground, a: u64, b: u64) -> u64
+    requires { ⌜ (site .modify .count ≤ 64) × Stands site ground ⌝ }
     ensures { λ r. ⌜ r ≡ first (createRules site a b) ⌝ }
 {
     if is_unknown_pair(site, a, b) {
@@ -205,7 +251,7 @@ pub fn create_outcome(site: Site, a: u64, b: u64) -> u64
     if is_full(site) {
         return 6;
     }
-    if create_spoils(site, parent, child) {
+    if create_spoils(site, ground, parent, child) {
         return 9;
     }
     0
@@ -235,8 +281,8 @@ pub fn delete_outcome(site: Site, names: bool, members: bool, a: u64, b: u64) ->
 }
 
 // Kind 7.
-pub fn insert_outcome(site: Site, a: u64, b: u64) -> u64
-    requires { ⌜ site .modify .count ≤ 64 ⌝ }
+pub fn insert_outcome(site: Site, ground: Ground, a: u64, b: u64) -> u64
+    requires { ⌜ (site .modify .count ≤ 64) × Stands site ground ⌝ }
     ensures { λ r. ⌜ r ≡ first (insertRules site a b) ⌝ }
 {
     if is_unknown_pair(site, a, b) {
@@ -250,15 +296,15 @@ pub fn insert_outcome(site: Site, a: u64, b: u64) -> u64
     if is_comparable(site.roles, upper, lower) {
         return 5;
     }
-    if insert_spoils(site, upper, lower) {
+    if insert_spoils(site, ground, upper, lower) {
         return 9;
     }
     0
 }
 
 // Kind 8.
-pub fn cut_outcome(site: Site, a: u64, b: u64) -> u64
-    requires { ⌜ site .modify .count ≤ 64 ⌝ }
+pub fn cut_outcome(site: Site, ground: Ground, a: u64, b: u64) -> u64
+    requires { ⌜ (site .modify .count ≤ 64) × Stands site ground ⌝ }
     ensures { λ r. ⌜ r ≡ first (cutRules site a b) ⌝ }
 {
     if is_unknown_pair(site, a, b) {
@@ -272,7 +318,7 @@ pub fn cut_outcome(site: Site, a: u64, b: u64) -> u64
     if !is_edge_in(site.roles, upper, lower) {
         return 5;
     }
-    if cut_spoils(site, upper, lower) {
+    if cut_spoils(site, ground, upper, lower) {
         return 9;
     }
     0
@@ -382,63 +428,89 @@ pub fn is_occupied(p: Policy, a: usize) -> bool
     some_in(p.permissions, a)
 }
 
-// Kind 5: create a role, parent a, child b.
-pub fn create_role(p: Policy, o: u64, a: u64, b: u64) -> Answer
+// 7 or 8: does some row name a, or is someone in it?
+fn is_tied(p: Policy, a: usize) -> bool
     requires { ⌜ Sizes p ⌝ }
-    ensures { λ r. ⌜ r ≡ createRole p o a b ⌝ }
+    ensures { λ r. ⌜ r ≡ tied p a ⌝ }
+{
+    if is_named(p.tables, p.modify, a) {
+        return true;
+    }
+    is_occupied(p, a)
+}
+
+// Kind 5: create a role, parent a, child b. Where sound says so, p is known to be good.
+pub fn create_role(p: Policy, sound: bool, o: u64, a: u64, b: u64) -> Change
+    requires { ⌜ Sizes p × (sound ≡ true → Good p) ⌝ }
+    ensures { λ r. ⌜ decided p a r ≡ createRole p o a b ⌝ }
 {
     let site = site_of(p, o);
-    let outcome = create_outcome(site, a, b);
-    if outcome != 0 {
-        return refused(p, outcome);
-    }
     let order = site.roles;
+    let outcome = create_outcome(site, ground_of(site, sound), a, b);
+    if outcome != 0 {
+        return unchanged(order, outcome);
+    }
     let n = lowest_free(order.used);
-    let after = create(order, n, a as usize, b as usize);
-    accepted(with_roles(p, after), n as u64)
+    reordered(create(order, n, a as usize, b as usize), n as u64)
 }
 
 // Kind 6: delete role a.
-pub fn delete_role(p: Policy, o: u64, a: u64, b: u64) -> Answer
+pub fn delete_role(p: Policy, o: u64, a: u64, b: u64) -> Change
     requires { ⌜ Sizes p ⌝ }
-    ensures { λ r. ⌜ r ≡ deleteRole p o a b ⌝ }
+    ensures { λ r. ⌜ decided p a r ≡ deleteRole p o a b ⌝ }
 {
     let site = site_of(p, o);
+    let order = site.roles;
     let role = a as usize;
     let names = is_named(p.tables, p.modify, role);
     let members = is_occupied(p, role);
     let outcome = delete_outcome(site, names, members, a, b);
     if outcome != 0 {
-        return refused(p, outcome);
+        return unchanged(order, outcome);
     }
-    let after = remove(site.roles, role);
-    accepted(with_roles(p, after), 0)
+    reordered(remove(order, role), 0)
 }
 
 // Kind 7: insert an edge, a senior to b.
-pub fn insert_edge(p: Policy, o: u64, a: u64, b: u64) -> Answer
-    requires { ⌜ Sizes p ⌝ }
-    ensures { λ r. ⌜ r ≡ insertEdge p o a b ⌝ }
+pub fn insert_edge(p: Policy, sound: bool, o: u64, a: u64, b: u64) -> Change
+    requires { ⌜ Sizes p × (sound ≡ true → Good p) ⌝ }
+    ensures { λ r. ⌜ decided p a r ≡ insertEdge p o a b ⌝ }
 {
     let site = site_of(p, o);
-    let outcome = insert_outcome(site, a, b);
+    let order = site.roles;
+    let outcome = insert_outcome(site, ground_of(site, sound), a, b);
     if outcome != 0 {
-        return refused(p, outcome);
+        return unchanged(order, outcome);
     }
-    let after = insert(site.roles, a as usize, b as usize);
-    accepted(with_roles(p, after), 0)
+    reordered(insert(order, a as usize, b as usize), 0)
 }
 
 // Kind 8: delete edge (a, b).
-pub fn delete_edge(p: Policy, o: u64, a: u64, b: u64) -> Answer
-    requires { ⌜ Sizes p ⌝ }
-    ensures { λ r. ⌜ r ≡ deleteEdge p o a b ⌝ }
+pub fn delete_edge(p: Policy, sound: bool, o: u64, a: u64, b: u64) -> Change
+    requires { ⌜ Sizes p × (sound ≡ true → Good p) ⌝ }
+    ensures { λ r. ⌜ decided p a r ≡ deleteEdge p o a b ⌝ }
 {
     let site = site_of(p, o);
-    let outcome = cut_outcome(site, a, b);
+    let order = site.roles;
+    let outcome = cut_outcome(site, ground_of(site, sound), a, b);
     if outcome != 0 {
-        return refused(p, outcome);
+        return unchanged(order, outcome);
     }
-    let after = cut_edge(site.roles, a as usize, b as usize);
-    accepted(with_roles(p, after), 0)
+    reordered(cut_edge(order, a as usize, b as usize), 0)
+}
+
+// The roles that cannot be deleted: some row names them (7), or someone is in them (8).
+pub fn tied_roles(p: Policy) -> u64
+    requires { ⌜ Sizes p ⌝ }
+    ensures { λ r. ⌜ r ≡ setOf 64 (tied p) ⌝ }
+{
+    let mut set: u64 = 0;
+    let mut a = 0;
+    while a < 64 {
+        if is_tied(p, a) {
+            set = with(set, a);
+        }
+        a += 1;
+    }
+    set
 }

@@ -1,17 +1,17 @@
 // The policy: two orders, users, permissions and five tables, by value. It is changed by the builders below and by nothing else.
 ghost use mathlib.Core.Path.{_≡_};
-ghost use lib.ListN.{length, getD};
+ghost use lib.ListN.{getD};
 ghost use Rattle.order.specs.Order.{senior};
 ghost use Rattle.policy.specs.Build.{emptyOrder, emptyMembers, emptyRow, emptyTable, emptyRanges, emptyTables, emptyPolicy, putRoles, withRoles, withUsers, withPermissions};
 ghost use Rattle.policy.specs.Change.{unchanged, reordered, usersAfter, permissionsAfter, changed};
 ghost use Rattle.policy.specs.Outcome.{refused, accepted};
 ghost use Rattle.policy.specs.Question.{mayExercise, question};
 use order::Order;
-use order::reaches;
+use order::reached;
 use ranges::AdminId;
 use ranges::ModifyRow;
 use ranges::RoleId;
-use sets::has;
+use sets::both;
 
 // The orders of roles and of administrative roles.
 pub struct Orders {
@@ -345,29 +345,11 @@ pub fn office_of(p: People, a: u64) -> u64
     p.offices[a as usize]
 }
 
-// Is some role held equal or senior to some role granted?
-fn may_exercise(juniors: &[u64], held: u64, granted: u64) -> bool
-    requires { ⌜ length (now juniors) ≡ 64 ⌝ }
-    ensures { λ r. ⌜ r ≡ mayExercise (senior (now (juniors .entry))) held granted ⌝ }
-{
-    let mut x = 0;
-    while x < 64 {
-        if has(granted, x) {
-            if reaches(juniors, held, x) {
-                return true;
-            }
-        }
-        x += 1;
-    }
-    false
-}
-
-// The same on an order by value.
+// Is some role held equal or senior to some role granted? So it is where held reaches a role that is granted.
 fn exercises(order: Order, held: u64, granted: u64) -> bool
     ensures { λ r. ⌜ r ≡ mayExercise (senior (order .juniors)) held granted ⌝ }
 {
-    let juniors = order.juniors;
-    may_exercise(&juniors, held, granted)
+    both(reached(order, held), granted) != 0
 }
 
 // The permission question, for any numbers.

@@ -27,7 +27,7 @@ unfolding cutRules
 returns-3 c = search first-that-holds depth 12
 
 cut-spoils-requires : tie.Need-cut-spoils-requires
-cut-spoils-requires c κs = search (needs, first-that-holds, pair-fit) depth 7
+cut-spoils-requires c κs = (search (needs, first-that-holds, pair-fit) depth 7, search needs)
 
 returns-4 : tie.Need-returns-4
 unfolding cutRules

@@ -1,4 +1,6 @@
-use mathlib.Core.Path.{sym, _∙_}
+-- Assumes nothing.
+use mathlib.Core.Path.{refl, sym, _∙_}
+use Rattle.policy.proofs.Changes.{unchanged-answer, reordered-answer}
 use Rattle.hierarchy.proofs.Accepted.{delete-fits, site-size}
 use Rattle.hierarchy.proofs.Answers.{delete-refused, delete-accepted, rules-same}
 use borrow.Author.Needs.{needs}
@@ -15,36 +17,37 @@ is-occupied-requires : tie.Need-is-occupied-requires
 is-occupied-requires c κs = search needs
 
 delete-outcome-requires : tie.Need-delete-outcome-requires
-delete-outcome-requires c κs = site-size _ _ (c .before .before .site-of .ensures) (c .before .before .before .pre .modify)
+delete-outcome-requires c κs =
+    let at-site = c .before .before .before in
+    site-size _ _ (at-site .site-of .ensures) (at-site .before .pre .modify)
 
-refused-requires : tie.Need-refused-requires
-refused-requires c κs = search needs
+unchanged-requires : tie.Need-unchanged-requires
+unchanged-requires c κs = search needs
 
 returns : tie.Need-returns
 returns c =
-    let asked = c .before .before .before in
-    let outcome = c .before .before .delete-outcome .ensures
-    ∙ rules-same _ _ _ (asked .before .is-named .ensures) (asked .is-occupied .ensures) in
-    c .refused .ensures ∙ delete-refused _ _ _ _ (asked .before .before .site-of .ensures) outcome (c .before .if1 .taken)
+    let at-outcome = c .before .before in
+    let at-members = at-outcome .before in
+    let at-names = at-members .before in
+    let outcome = at-outcome .delete-outcome .ensures ∙ rules-same _ _ _ (at-names .is-named .ensures) (at-members .is-occupied .ensures) in
+    unchanged-answer _ _ (c .unchanged .ensures) (c .before .if1 .taken)
+    ∙ delete-refused _ _ _ _ (at-names .before .before .site-of .ensures) outcome (c .before .if1 .taken)
 
 remove-requires : tie.Need-remove-requires
 remove-requires c κs = delete-fits _ (search needs) _ _ _ _ (sym (c .before .delete-outcome .ensures) ∙ c .if1 .left)
 
-with-roles-requires : tie.Need-with-roles-requires
-with-roles-requires c κs = search needs
-
-accepted-requires : tie.Need-accepted-requires
-accepted-requires c κs = search needs
+reordered-requires : tie.Need-reordered-requires
+reordered-requires c κs = search needs
 
 returns-2 : tie.Need-returns-2
 returns-2 c =
-    let decided = c .before .before .before in
-    let asked = decided .before .before in
-    let outcome = decided .before .delete-outcome .ensures
-    ∙ rules-same _ _ _ (asked .before .is-named .ensures) (asked .is-occupied .ensures) in
-    c .accepted .ensures
-    ∙ delete-accepted _ _ _ _ (asked .before .before .site-of .ensures) outcome (decided .if1 .left)
-    (c .before .before .remove .ensures) (c .before .with-roles .ensures)
+    let at-test = c .before .before in
+    let at-outcome = at-test .before in
+    let at-members = at-outcome .before in
+    let at-names = at-members .before in
+    let outcome = at-outcome .delete-outcome .ensures ∙ rules-same _ _ _ (at-names .is-named .ensures) (at-members .is-occupied .ensures) in
+    reordered-answer _ _ (c .reordered .ensures)
+    ∙ delete-accepted _ _ _ _ (at-names .before .before .site-of .ensures) outcome (at-test .if1 .left) (c .before .remove .ensures) refl
 
 pub delete-role-spec : {M : Type 1} → statement M
 delete-role-spec =
@@ -54,9 +57,8 @@ delete-role-spec =
     is-named-requires
     is-occupied-requires
     delete-outcome-requires
-    refused-requires
+    unchanged-requires
     returns
     remove-requires
-    with-roles-requires
-    accepted-requires
+    reordered-requires
     returns-2)

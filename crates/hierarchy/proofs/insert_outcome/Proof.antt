@@ -27,7 +27,7 @@ unfolding insertRules
 returns-3 c = search first-that-holds depth 12
 
 insert-spoils-requires : tie.Need-insert-spoils-requires
-insert-spoils-requires c κs = search (needs, first-that-holds, pair-fit) depth 7
+insert-spoils-requires c κs = (search (needs, first-that-holds, pair-fit) depth 7, search needs)
 
 returns-4 : tie.Need-returns-4
 unfolding insertRules
