@@ -1,6 +1,8 @@
 // One function over all kinds of request, and the table of the numbers that each kind may give.
 ghost use mathlib.Core.Path.{_≡_};
-ghost use Rattle.policy.specs.Good.{Sizes};
+ghost use mathlib.Core.Bool.{true};
+ghost use Rattle.policy.specs.Good.{Sizes, Good};
+ghost use Rattle.policy.specs.Change.{decided};
 ghost use Rattle.requests.specs.Requests.{decide};
 ghost use Rattle.requests.specs.Numbers.{mayGive, tableRow};
 use hierarchy::create_role;
@@ -12,8 +14,12 @@ use members::assign_user;
 use members::revoke_permission;
 use members::revoke_user;
 use policy::Answer;
+use policy::Change;
 use policy::Policy;
+use policy::accepted;
+use policy::changed;
 use policy::refused;
+use policy::unchanged;
 use sets::contains;
 
 pub struct Request {
@@ -43,21 +49,34 @@ pub fn may_give(kind: u64, outcome: u64) -> bool
     contains(table_row(kind), outcome)
 }
 
-// The answer to any request, whatever its four numbers.
-pub fn decide(p: Policy, q: Request) -> Answer
-    requires { ⌜ Sizes p ⌝ }
-    ensures { λ r. ⌜ r ≡ decide p q ⌝ }
+// What any request decides, whatever its four numbers. Where sound says so, p is known to be good.
+pub fn change_of(p: Policy, sound: bool, q: Request) -> Change
+    requires { ⌜ Sizes p × (sound ≡ true → Good p) ⌝ }
+    ensures { λ r. ⌜ decided p (q .a) r ≡ decide p q ⌝ }
 {
     let kind = q.kind;
+    let orders = p.orders;
     match kind {
         1 => assign_user(p, q.officer, q.a, q.b),
         2 => revoke_user(p, q.officer, q.a, q.b),
         3 => assign_permission(p, q.officer, q.a, q.b),
         4 => revoke_permission(p, q.officer, q.a, q.b),
-        5 => create_role(p, q.officer, q.a, q.b),
+        5 => create_role(p, sound, q.officer, q.a, q.b),
         6 => delete_role(p, q.officer, q.a, q.b),
-        7 => insert_edge(p, q.officer, q.a, q.b),
-        8 => delete_edge(p, q.officer, q.a, q.b),
-        _ => refused(p, 1),
+        7 => insert_edge(p, sound, q.officer, q.a, q.b),
+        8 => delete_edge(p, sound, q.officer, q.a, q.b),
+        _ => unchanged(orders.roles, 1),
     }
+}
+
+// The answer to any request, with the policy after.
+pub fn decide(p: Policy, q: Request) -> Answer
+    requires { ⌜ Sizes p ⌝ }
+    ensures { λ r. ⌜ r ≡ decide p q ⌝ }
+{
+    let c = change_of(p, false, q);
+    if c.outcome != 0 {
+        return refused(p, c.outcome);
+    }
+    accepted(changed(p, q.a, c), c.number)
 }
