@@ -9,9 +9,9 @@ use native.Mathlib.Omega.{arith}
 use lib.Dec.{eqb, leb, ltb, lit<}
 use lib.ListN.{length, getD, length-append}
 use borrow.Author.Tests.{eq-eqb, ne-eqb, eqb-true, eqb-false, le-leb, lt-leb, lt-ltb, le-ltb, ltb-false}
-use Rattle.sets.specs.Tests.{_and_, _or_, pick}
-use Rattle.sets.specs.Sets.{has, count, setOf, size}
-use Rattle.sets.proofs.Tests.{by-test, and-given, and-fails-l, neg-i}
+use Rattle.sets.specs.Tests.{_and_, _or_, neg, pick}
+use Rattle.sets.specs.Sets.{has, count, setOf, size, Exactly}
+use Rattle.sets.proofs.Tests.{by-test, clash, and-i, and-given, and-fails-l, and-l, or-fails-l, or-fails-r, neg-i}
 use Rattle.sets.proofs.Digits.{has-bit, has-empty}
 use Rattle.sets.proofs.Quantifiers.{count-same, count-first, count-add}
 use Rattle.sets.proofs.Builders.{setOf-is, setOf-same, has-setOf}
@@ -19,7 +19,12 @@ use Rattle.policy.specs.declared.Policy.{Policy}
 use Rattle.policy.specs.Outcome.{first}
 use Rattle.policy.proofs.Outcomes.{first-here}
 use Rattle.hierarchy.specs.declared.Site.{Site}
-use Rattle.hierarchy.specs.Rules.{site, named, someIn, deleteRules}
+use Rattle.hierarchy.specs.declared.Ground.{Ground}
+use Rattle.hierarchy.specs.Ground.{Stands}
+use Rattle.order.specs.Order.{senior, comparable, edge}
+use Rattle.hierarchy.specs.Rules.{site, over, named, someIn, tied, unknownRole, mayModify, deleteRules}
+use Rattle.hierarchy.proofs.Laws.{known-first, known-second}
+use Rattle.hierarchy.proofs.Accepted.{create-ok, insert-ok, cut-ok}
 use Rattle.requests.specs.Requests.{ask, rulesOf}
 use Rattle.requests.proofs.Decided.{every-request}
 use lib.Seq.{sets}
@@ -28,7 +33,7 @@ use Rattle.number.proofs.Puts.{Putting, put-room, put-step}
 use Rattle.listing.specs.Listing.{accepts, placeCount, listedAt, entryCount, entry, entriesOf, entriesFor}
 use Rattle.listing.specs.Listing.{acceptedSet, AcceptedRows, inRows, listed, filled, ListingOf}
 use Rattle.listing.specs.declared.Listed.the-variants.{Unknown, Short, Entries}
-use Rattle.listing.specs.Sites.{siteOutcome}
+use Rattle.listing.specs.Sites.{siteOutcome, siteSet, ToDo}
 
 -- ---- acceptance by kind
 module _ (p : Policy) (o a b : ℕ) where
@@ -52,6 +57,10 @@ module _ (p : Policy) (o a b : ℕ) where
   pub accepts-cut : accepts p o 8 a b ≡ eqb (siteOutcome (site p o) 8 a b) 0
   unfolding rulesOf siteOutcome
   accepts-cut = by-rules 8
+
+tied-is : (p : Policy) (a : ℕ) → tied p a ≡ (named (p .tables) (p .modify) a or (someIn (p .people .users) a or someIn (p .permissions) a))
+unfolding tied
+tied-is p a = refl
 
 -- kinds 5, 7 and 8 in one: k is below 9, at least 5 and not 6
 pub accepts-site : (p : Policy) (o a b k : ℕ) → 5 ≤ k → k < 9 → (k ≡ 6 → ⊥) → accepts p o k a b ≡ eqb (siteOutcome (site p o) k a b) 0
@@ -88,26 +97,89 @@ module _ (s : Site) (names members : Bool) (a : ℕ) where
     delete-none z =
         setOf-is 64 0 _ (lit< tt) (λ b l. has-empty b ∙ sym (only-zero b ∙ Rattle.sets.proofs.Tests.and-fails-r _ _ (ne-eqb _ 0 (λ q. z (e ∙ q)))))
 
--- ---- the rows that are gathered
-module _ (p : Policy) (o j : ℕ) (l : j < 256) where
-  pub row-site : {s : Site} → s ≡ site p o → (5 + j / 64 ≡ 6 → ⊥) → {r : ℕ}
-      → r ≡ setOf 64 (λ b. eqb (siteOutcome s (5 + j / 64) (j % 64) b) 0) → r ≡ acceptedSet p o j
-  unfolding acceptedSet
-  row-site e n q =
-      q ∙ setOf-same 64 _ _ (λ b h.
-      ap (λ (s : Site). eqb (siteOutcome s (5 + j / 64) (j % 64) b) 0) e
-      ∙ sym (accepts-site p o (j % 64) b (5 + j / 64) (omega arith) (omega arith) n))
+-- ---- the candidates: where a request would be accepted, there is something to do
 
-  pub row-delete : {s : Site} → s ≡ site p o → 5 + j / 64 ≡ 6 → {n m : Bool} → n ≡ named (p .tables) (p .modify) (j % 64)
-      → m ≡ (someIn (p .people .users) (j % 64) or someIn (p .permissions) (j % 64)) → {r : ℕ}
-      → r ≡ setOf 64 (λ b. eqb (first (deleteRules s n m (j % 64) b)) 0)
-      → r ≡ acceptedSet p o j
-  unfolding acceptedSet
-  row-delete e k {n} {m} en em q =
-      q ∙ setOf-same 64 _ _ (λ b h.
-      ap (λ (s : Site). eqb (first (deleteRules s n m (j % 64) b)) 0) e
-      ∙ ap₂ (λ (x y : Bool). eqb (first (deleteRules (site p o) x y (j % 64) b)) 0) en em
-      ∙ sym (accepts-delete p o (j % 64) b) ∙ ap (λ (c : ℕ). accepts p o c (j % 64) b) (sym k))
+module _ (s : Site) (a b : ℕ) where
+  pub create-member : siteOutcome s 5 a b ≡ 0 → (has (s .roles .used) a ≡ true) × (over s a b ≡ true)
+  unfolding siteOutcome
+  create-member e = let ok = create-ok s a b e in (known-first s a b (ok .known), ok .senior)
+
+  pub insert-member : siteOutcome s 7 a b ≡ 0 → (has (s .roles .used) a ≡ true) × (has (s .roles .used) b ≡ true) × (comparable (over s) a b ≡ false)
+  unfolding siteOutcome
+  insert-member e =
+      let ok = insert-ok s a b e in
+      (known-first s a b (ok .known), known-second s a b (ok .known), ok .apart)
+
+  pub cut-member : (kind : ℕ) → (kind ≡ 5 → ⊥) → (kind ≡ 7 → ⊥) → siteOutcome s kind a b ≡ 0 → (has (s .roles .used) a ≡ true) × (over s a b ≡ true)
+  unfolding siteOutcome edge
+  cut-member kind n m e =
+      let ok = cut-ok s a b (rw (ne-eqb kind 5 n, ne-eqb kind 7 m) at e) in
+      (known-first s a b (ok .known), and-l _ _ (ok .joined))
+
+-- a has to be in use, whatever the kind
+pub first-used : (s : Site) (kind a b : ℕ) → siteOutcome s kind a b ≡ 0 → has (s .roles .used) a ≡ true
+first-used s kind a b e =
+    by-test (eqb kind 5) (λ t. create-member s a b (rw (eqb-true kind 5 t) at e) .0)
+    (λ n. by-test (eqb kind 7) (λ t. insert-member s a b (rw (eqb-true kind 7 t) at e) .0)
+    (λ m. cut-member s a b kind (eqb-false kind 5 n) (eqb-false kind 7 m) e .0))
+
+-- kinds 5 and 8: b is junior to a
+pub junior-member : (s : Site) (kind a b : ℕ) → (kind ≡ 7 → ⊥) → siteOutcome s kind a b ≡ 0 → over s a b ≡ true
+junior-member s kind a b m e =
+    by-test (eqb kind 5) (λ t. create-member s a b (rw (eqb-true kind 5 t) at e) .1)
+    (λ n. cut-member s a b kind (eqb-false kind 5 n) m e .1)
+
+-- the three sets that are tried
+module _ (s : Site) (kind a : ℕ) where
+  pub none-to-do : has (s .roles .used) a ≡ false → ToDo s kind a 0
+  none-to-do n = record { each = λ b e. clash (first-used s kind a b e) n }
+
+  pub juniors-to-do : (kind ≡ 7 → ⊥) → {r : ℕ} → r ≡ getD (s .roles .juniors) a 0 → ToDo s kind a r
+  unfolding senior
+  juniors-to-do m q = record { each = λ b e. rw q (junior-member s kind a b m e) }
+
+  -- of those in use what is neither junior nor senior to a
+  pub others-to-do : kind ≡ 7 → (g : Ground) → Stands s g → (x y z : ℕ) → x ≡ getD (s .roles .juniors) a 0
+      → Exactly y (λ b. has (s .roles .used) b and neg (has x b)) → Exactly z (λ b. has y b and neg (has (getD (g .seniors) a 0) b)) → ToDo s kind a z
+  unfolding senior comparable
+  others-to-do k g st x y z q ey ez = record {
+    each = λ b e.
+        let t = insert-member s a b (rw k at e) in
+        let apart = or-fails-r _ _ (t .2) in
+        ez b ∙ and-i _ _ (ey b ∙ and-i _ _ (t .1) (neg-i _ (rw q (or-fails-l _ _ apart))))
+        (neg-i _ (st .above .seniors a b ∙ or-fails-r _ _ apart));
+  }
+
+-- ---- the rows that are gathered
+
+-- 7 and 8 together say whether the role is tied
+tied-refusals : (s : Site) (names members : Bool) (a b : ℕ)
+    → eqb (first (deleteRules s (names or members) false a b)) 0 ≡ eqb (first (deleteRules s names members a b)) 0
+unfolding deleteRules first _or_
+tied-refusals s true members a b = refl
+tied-refusals s false true a b = by-ends (neg (eqb b 0)) (unknownRole s a) (neg (mayModify s 6 a b))
+  where
+    by-ends : (x y z : Bool) → eqb (pick x 1 (pick y 2 (pick z 3 (pick true 7 (pick false 8 0))))) 0 ≡ eqb (pick x 1 (pick y 2 (pick z 3 (pick false 7 (pick true 8 0))))) 0
+    by-ends true y z = refl
+    by-ends false true z = refl
+    by-ends false false true = refl
+    by-ends false false false = refl
+tied-refusals s false false a b = refl
+
+pub site-rows : (p : Policy) (o j : ℕ) → j < 256 → siteSet (site p o) (setOf 64 (tied p)) j ≡ acceptedSet p o j
+unfolding siteSet acceptedSet
+site-rows p o j l =
+    by-test (eqb (5 + j / 64) 6)
+    (λ t. rw t
+    (setOf-same 64 _ _ (λ b h.
+    ap (λ (x : Bool). eqb (first (deleteRules (site p o) x false (j % 64) b)) 0) (tied-at (j % 64) (omega arith))
+    ∙ tied-refusals (site p o) _ _ (j % 64) b ∙ sym (accepts-delete p o (j % 64) b)
+    ∙ ap (λ (c : ℕ). accepts p o c (j % 64) b) (sym (eqb-true (5 + j / 64) 6 t)))))
+    (λ t. rw t
+    (setOf-same 64 _ _ (λ b h. sym (accepts-site p o (j % 64) b (5 + j / 64) (omega arith) (omega arith) (eqb-false (5 + j / 64) 6 t)))))
+  where
+    tied-at : (a : ℕ) → a < 64 → has (setOf 64 (tied p)) a ≡ (named (p .tables) (p .modify) a or (someIn (p .people .users) a or someIn (p .permissions) a))
+    tied-at a k = has-setOf 64 (tied p) a k ∙ tied-is p a
 
 -- ---- the count
 -- a place of row j

@@ -1,3 +1,4 @@
+pub mod Sifted
 pub mod Laws
 pub mod Entries
 pub mod Promised

@@ -1,27 +1,33 @@
 // The listing: every request of kinds 5 to 8 that an officer would have accepted.
 ghost use mathlib.Core.Path.{_≡_};
+ghost use mathlib.Core.Bool.{false};
 ghost use Prim.Native.Nat.{_+_, _*_, _≤_, _<_};
 ghost use lib.Dec.{eqb};
 ghost use lib.ListN.{length};
 ghost use lib.Seq.{sets};
-ghost use Rattle.sets.specs.Sets.{count, setOf};
-ghost use Rattle.policy.specs.Good.{Sizes};
+ghost use Rattle.sets.specs.Sets.{has, count, setOf};
+ghost use Rattle.policy.specs.Good.{Good};
 ghost use Rattle.policy.specs.Outcome.{first};
 ghost use Rattle.hierarchy.specs.Rules.{deleteRules};
+ghost use Rattle.hierarchy.specs.Ground.{Stands};
 ghost use Rattle.listing.specs.Listing.{acceptedSet, AcceptedRows, inRows, placeCount, entry, entriesOf, ListingOf};
-ghost use Rattle.listing.specs.Sites.{siteOutcome};
+ghost use Rattle.listing.specs.Sites.{siteOutcome, siteSet, ToDo};
+use hierarchy::Ground;
 use hierarchy::Site;
 use hierarchy::create_outcome;
 use hierarchy::cut_outcome;
 use hierarchy::delete_outcome;
+use hierarchy::ground_of;
 use hierarchy::insert_outcome;
-use hierarchy::is_named;
-use hierarchy::is_occupied;
 use hierarchy::site_of;
+use hierarchy::tied_roles;
 use policy::Policy;
 use sets::has;
+use sets::lowest;
+use sets::minus;
 use sets::size;
 use sets::with;
+use sets::without_lowest;
 
 // What a listing gives: the officer is unknown, the buffer too short, or the count of entries.
 pub enum Listed {
@@ -31,74 +37,88 @@ pub enum Listed {
 }
 
 // The outcome of kind 5, 7 or 8: authority and "nothing to do" are tested before the costly check of all ranges.
-fn site_outcome(site: Site, kind: u64, a: u64, b: u64) -> u64
-    requires { ⌜ site .modify .count ≤ 64 ⌝ }
+fn site_outcome(site: Site, ground: Ground, kind: u64, a: u64, b: u64) -> u64
+    requires { ⌜ (site .modify .count ≤ 64) × Stands site ground ⌝ }
     ensures { λ r. ⌜ r ≡ siteOutcome site kind a b ⌝ }
 {
     if kind == 5 {
-        return create_outcome(site, a, b);
+        return create_outcome(site, ground, a, b);
     }
     if kind == 7 {
-        return insert_outcome(site, a, b);
+        return insert_outcome(site, ground, a, b);
     }
-    cut_outcome(site, a, b)
+    cut_outcome(site, ground, a, b)
+}
+
+// A set that has each b with which a request of kind 5, 7 or 8 has something to do, so that few are tried in vain.
+fn to_do(site: Site, ground: Ground, kind: u64, a: usize) -> u64
+    requires { ⌜ (a < 64) × Stands site ground ⌝ }
+    ensures { λ r. ⌜ ToDo site kind a r ⌝ }
+{
+    let order = site.roles;
+    if !has(order.used, a) {
+        return 0;
+    }
+    let below = order.juniors[a];
+    if kind != 7 {
+        return below;
+    }
+    minus(minus(order.used, below), ground.seniors[a])
 }
 
 // The set of the b with which a request of kind 5, 7 or 8 would be accepted.
-fn accepted_row(site: Site, kind: u64, a: u64) -> u64
-    requires { ⌜ site .modify .count ≤ 64 ⌝ }
+fn accepted_row(site: Site, ground: Ground, kind: u64, a: usize) -> u64
+    requires { ⌜ (a < 64) × (site .modify .count ≤ 64) × Stands site ground ⌝ }
     ensures { λ r. ⌜ r ≡ setOf 64 (λ b. eqb (siteOutcome site kind a b) 0) ⌝ }
 {
     let mut row: u64 = 0;
-    let mut b = 0;
-    while b < 64 {
-        if site_outcome(site, kind, a, b as u64) == 0 {
+    let mut rest = to_do(site, ground, kind, a);
+    while rest != 0 {
+        let b = lowest(rest);
+        if site_outcome(site, ground, kind, a as u64, b as u64) == 0 {
             row = with(row, b);
         }
-        b += 1;
+        rest = without_lowest(rest);
     }
     row
 }
 
-// The same for kind 6, which has b 0 alone.
-fn delete_row(site: Site, names: bool, members: bool, a: u64) -> u64
-    requires { ⌜ site .modify .count ≤ 64 ⌝ }
-    ensures { λ r. ⌜ r ≡ setOf 64 (λ b. eqb (first (deleteRules site names members a b)) 0) ⌝ }
+// The same for kind 6, which has b 0 alone; tied is the set of the roles that cannot go.
+fn delete_row(site: Site, tied: u64, a: usize) -> u64
+    requires { ⌜ (a < 64) × (site .modify .count ≤ 64) ⌝ }
+    ensures { λ r. ⌜ r ≡ setOf 64 (λ b. eqb (first (deleteRules site (has tied a) false a b)) 0) ⌝ }
 {
-    if delete_outcome(site, names, members, a, 0) == 0 {
+    if delete_outcome(site, has(tied, a), false, a as u64, 0) == 0 {
         return 1;
     }
     0
 }
 
 // The set of the b with which the request of kind and a at place j of 4 times 64 would be accepted.
-fn row_at(p: Policy, o: u64, j: usize) -> u64
-    requires { ⌜ Sizes p × (j < 256) ⌝ }
-    ensures { λ r. ⌜ r ≡ acceptedSet p o j ⌝ }
+fn row_at(site: Site, ground: Ground, tied: u64, j: usize) -> u64
+    requires { ⌜ (j < 256) × (site .modify .count ≤ 64) × Stands site ground ⌝ }
+    ensures { λ r. ⌜ r ≡ siteSet site tied j ⌝ }
 {
-    let site = site_of(p, o);
     let kind = 5 + j / 64;
     let a = j % 64;
     if kind == 6 {
-        return delete_row(
-            site,
-            is_named(p.tables, p.modify, a),
-            is_occupied(p, a),
-            a as u64,
-        );
+        return delete_row(site, tied, a);
     }
-    accepted_row(site, kind as u64, a as u64)
+    accepted_row(site, ground, kind as u64, a)
 }
 
-// All that would be accepted, gathered before a byte is written.
+// All that would be accepted, gathered before a byte is written; what does not depend on the request is found once.
 fn gathered(p: Policy, o: u64) -> [u64; 256]
-    requires { ⌜ Sizes p ⌝ }
+    requires { ⌜ Good p ⌝ }
     ensures { λ r. ⌜ AcceptedRows p o r ⌝ }
 {
+    let site = site_of(p, o);
+    let ground = ground_of(site, true);
+    let tied = tied_roles(p);
     let mut rows = [0u64; 256];
     let mut j = 0;
     while j < 256 {
-        rows[j] = row_at(p, o, j);
+        rows[j] = row_at(site, ground, tied, j);
         j += 1;
     }
     rows
@@ -145,7 +165,7 @@ fn put_entries(out: &mut [u8], rows: [u64; 256])
 
 // The listing of an officer into a lent buffer.
 pub fn list(p: Policy, o: u64, out: &mut [u8]) -> Listed
-    requires { ⌜ Sizes p ⌝ }
+    requires { ⌜ Good p ⌝ }
     ensures { λ r. ⌜ ListingOf p o (now (out .entry)) r (now (out .exit)) ⌝ }
 {
     let people = p.people;

@@ -1,24 +1,41 @@
-use mathlib.Core.Path.{_≡_}
-use Prim.Native.Nat.{_≤_, _-_}
+-- Assumes nothing.
+use mathlib.Core.Path.{_≡_, ap₂, _∙_}
+use Prim.Native.Nat.{ℕ, _≤_, _-_}
 use native.Mathlib.Omega.{arith}
 use lib.ListN.{length, length-set}
-use Rattle.listing.specs.Listing.{acceptedSet}
+use Rattle.hierarchy.specs.declared.Site.{Site}
+use Rattle.hierarchy.proofs.Laws.{good-site}
+use Rattle.hierarchy.proofs.Accepted.{site-size}
+use Rattle.listing.specs.Sites.{siteSet}
+use Rattle.listing.proofs.Laws.{site-rows}
 use Rattle.sets.proofs.Loops.{Rewritten, rewrite-begin, rewrite-turn}
 use borrow.Author.Needs.{needs}
 use Rattle.listing.proofs.gathered.Statement.{statement}
 use Rattle.listing.proofs.gathered.Tie as tie
 
 abbrev Inv-loop : tie.InvT-loop
-Inv-loop p o rows₀ j₀ rows j = (length rows ≡ 256) × (j ≤ 256) × Rewritten (λ k v. v ≡ acceptedSet p o k) rows₀ rows j
+Inv-loop o site ground tied rows₀ j₀ rows j = (length rows ≡ 256) × (j ≤ 256) × Rewritten (λ k v. v ≡ siteSet site tied k) rows₀ rows j
 
 abbrev μ-loop : tie.MeasureT-loop
-μ-loop p o rows₀ j₀ rows j = 256 - j
+μ-loop o site ground tied rows₀ j₀ rows j = 256 - j
+
+site-of-requires : tie.Need-site-of-requires Inv-loop μ-loop
+site-of-requires c κs = search needs
+
+ground-of-requires : tie.Need-ground-of-requires Inv-loop μ-loop
+ground-of-requires c κs = λ e. good-site _ _ (c .site-of .ensures) (c .before .pre)
+
+tied-roles-requires : tie.Need-tied-roles-requires Inv-loop μ-loop
+tied-roles-requires c κs = c .before .before .pre .sizes
 
 loop-holds : tie.Need-loop-holds Inv-loop μ-loop
 loop-holds c = (search needs, search needs, rewrite-begin _ _)
 
 row-at-requires : tie.Need-row-at-requires Inv-loop μ-loop
-row-at-requires c κs = search needs
+row-at-requires c κs =
+    let at-ground = c .before .before .before in
+    let at-site = at-ground .before in
+    (search needs, site-size _ _ (at-site .site-of .ensures) (at-site .before .pre .sizes .modify), at-ground .ground-of .ensures)
 
 mul-rows : tie.Need-mul-rows Inv-loop μ-loop
 mul-rows c = search needs
@@ -38,7 +55,14 @@ loop-again c =
     (simp length-set (inv .0), search needs, rewrite-turn _ _ _ _ _ (omega arith) (inv .2) (c .row-at .ensures))
 
 returns : tie.Need-returns Inv-loop μ-loop
-returns c = record { row = λ k l. c .before .loop .inv .2 .done k (omega arith) }
+returns c =
+    let at-tied = c .before .before in
+    let at-site = at-tied .before .before in
+    record {
+      row = λ k l.
+          c .before .loop .inv .2 .done k (omega arith)
+          ∙ ap₂ (λ (s : Site) (t : ℕ). siteSet s t k) (at-site .site-of .ensures) (at-tied .tied-roles .ensures) ∙ site-rows _ _ k l;
+    }
 
 pub gathered-spec : {M : Type 1} → statement M
 gathered-spec =
@@ -46,6 +70,9 @@ gathered-spec =
     (tie.spec
     Inv-loop
     μ-loop
+    site-of-requires
+    ground-of-requires
+    tied-roles-requires
     loop-holds
     row-at-requires
     mul-rows
