@@ -1,7 +1,7 @@
 -- What the finder of a part knows at each test, and where a part that is found stands.
 -- Assumes nothing.
 use Prim.Native.Nat.{ℕ, _+_, _-_, _<_, _≤_}
-use mathlib.Core.Path.{_≡_, refl, ap}
+use mathlib.Core.Path.{_≡_, refl}
 use mathlib.Core.Bool.{Bool, true, false}
 use mathlib.Core.List.{List}
 use native.Mathlib.Omega.{arith}
@@ -12,23 +12,12 @@ use Rattle.sets.specs.Tests.{pick}
 use Rattle.sets.proofs.Tests.{and-i, and-fails-l, and-fails-r}
 use Rattle.number.specs.Run.{Step, go, stop}
 use Rattle.reading.specs.declared.How as how
-use Rattle.reading.specs.declared.FileRead.{FileRead}
 use Rattle.reading.specs.declared.Places.{Places}
-use Rattle.reading.specs.File.{File, fileAt, fileRead, readPolicy}
+use Rattle.reading.specs.File.{File, fileAt, readPolicy}
 use Rattle.reading.proofs.Bounds.{Placed}
 use Rattle.reading.proofs.Theorems.{file-placed}
 use Rattle.parts.specs.declared.Part.the-variants.{Found, Refused}
 use Rattle.parts.specs.Parts.{isTable, startOf, endOf, partOf, partAt}
-
--- ---- what the reader answers, back to the step that it answers
-pub file-got : (w : Step File) {r : FileRead} → r ≡ fileRead w → r .how ≡ how.the-variants.Accepted
-    → (e : ℕ) × (w ≡ go e (record { policy = r .policy; places = r .places }))
-file-got (go e f) {r} q h = (e, rw q)
-file-got (stop c p) {r} q h = absurd (let y = ap (λ (x : FileRead). x .how) q in let z : _≡_ {A = ℕ} 0 1 = cc in omega arith)
-
-pub file-lost : (w : Step File) {r : FileRead} {c p : ℕ} → r ≡ fileRead w → r .how ≡ how.the-variants.Refused c p → w ≡ stop c p
-file-lost (go e f) {r} q h = absurd (let y = ap (λ (x : FileRead). x .how) q in let z : _≡_ {A = ℕ} 0 1 = cc in omega arith)
-file-lost (stop c p) {r} q h = let y = ap (λ (x : FileRead). x .how) q in cc
 
 -- ---- a table's number
 module _ (k : ℕ) where
@@ -66,12 +55,14 @@ file-inside {s} k q = part-inside k (file-placed s q)
 
 -- ---- a part that is found: the file was accepted
 pub part-found : (s : List ℕ) (k : ℕ) {a n : ℕ} → partAt s k ≡ Found a n
-    → (isTable k ≡ true) × (e : ℕ) × (f : File) × (fileAt s ≡ go e f) × (a ≡ startOf (f .places) k) × (n ≡ endOf (f .places) k - startOf (f .places) k)
+    → (isTable k ≡ true) × (e : ℕ) × (f : File) × (fileAt s ≡ go e f) × (a ≡ startOf (f .places) k)
+    × (n ≡ endOf (f .places) k - startOf (f .places) k)
 unfolding partAt
 part-found s k {a} {n} q = by (isTable k) refl (fileAt s) refl q
   where
     by : (t : Bool) → isTable k ≡ t → (w : Step File) → fileAt s ≡ w → pick t (partOf k w) (Refused 1 0) ≡ Found a n
-        → (isTable k ≡ true) × (e : ℕ) × (f : File) × (fileAt s ≡ go e f) × (a ≡ startOf (f .places) k) × (n ≡ endOf (f .places) k - startOf (f .places) k)
+        → (isTable k ≡ true) × (e : ℕ) × (f : File) × (fileAt s ≡ go e f) × (a ≡ startOf (f .places) k)
+        × (n ≡ endOf (f .places) k - startOf (f .places) k)
     by true t (go e f) w q = (t, e, f, w, (cc), (cc))
     by true t (stop c p) w q = absurd (let z : _≡_ {A = ℕ} 0 1 = cc in omega arith)
     by false t w v q = absurd (let z : _≡_ {A = ℕ} 0 1 = cc in omega arith)

@@ -1,6 +1,7 @@
 -- What the proofs of several functions use.
+pub mod Going
 pub mod Held
-pub mod Made
 pub mod Sections
 pub mod Shapes
 pub mod Taken
+pub mod Moves

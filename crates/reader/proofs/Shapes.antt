@@ -1,8 +1,8 @@
--- The two shapes that a function which reads a section has, and the code of the functions that lead from one to the other.
+-- The two shapes that a function which reads a section has, and the code of the functions that lead from the first to the second.
 --     Section Xs         what is read: the type of the answer, and the answer of the bytes, the place and further values of the types Xs
 --     plainly, over      the signature of `fn(&[u8], usize, Xs..) -> R`, and that of `fn(Reader, Xs..) -> R`
 --     of-bytes, of-reader      what each ensures: the section's answer.        Plainly, Over     the two contracts
---     taking, making     the code that takes a reader apart and calls f on its bytes and its place, and the code that has a reader made and calls f on it
+--     taking             the code that takes a reader apart and calls f on its bytes and its place
 -- Assumes nothing: these are definitions.
 use mathlib.Core.Path.{_≡_}
 use Prim.Native.Nat.{ℕ, suc, _+_}
@@ -30,7 +30,6 @@ use denote.Triple.Spec.{tripleOf}
 use denote.Triple.Statement.{Contract}
 use Rattle.reader.proofs.Held.{B}
 use Rattle.reader.proofs.Reader.Laws as T′
-use Rattle.reader.proofs.stand.Symbol.{name as #stand}
 
 pub record Section (Xs : List RattleType) : Type 2 where
   pub row : RattleType
@@ -117,16 +116,4 @@ taking ty tys f =
           seq (assign (place (2 + length tys) []) (rvOpd (copy (place 1 (field 0 ∷ [])))))
           (seq (assign (place (3 + length tys) []) (rvOpd (copy (place 1 (field 1 ∷ [])))))
           (seq (call f (copy (place (2 + length tys) []) ∷ copy (place (3 + length tys) []) ∷ copies 2 tys) (place 0 [])) return));
-    }
-
-abbrev pub making : Ty → List Ty → Name → Fn
-making ty tys f =
-    record {
-      lifetimes = 1;
-      outlives = [];
-      params = 2 + length tys;
-      locals = kept ty ∷ kept (sliceTy (tyRef (named 0) imm (tyInt w8))) ∷ kept (tyInt w64) ∷ then tys (kept (T′.mir erased) ∷ []);
-      body =
-          seq (call #stand (copy (place 1 []) ∷ copy (place 2 []) ∷ []) (place (3 + length tys) []))
-          (seq (call f (copy (place (3 + length tys) []) ∷ copies 3 tys) (place 0 [])) return);
     }

@@ -3,13 +3,14 @@ ghost use mathlib.Core.Path.{_≡_};
 ghost use Rattle.number.specs.Number.{numAt};
 ghost use Rattle.sections.specs.Sections.{orderAt, orderRead, peopleAt, peopleRead, membersAt, membersRead};
 ghost use Rattle.rows.specs.Rows.{tableAt, tableRead, rangesAt, rangesRead};
-ghost use Rattle.reader.specs.Standing.{standing};
+ghost use Rattle.reader.specs.Standing.{standing, pastBy};
 use number::Num;
 use number::read_number;
 use rows::RangesRead;
 use rows::TableRead;
 use rows::read_ranges;
 use rows::read_table;
+use sections::Ended;
 use sections::MembersRead;
 use sections::OrderRead;
 use sections::PeopleRead;
@@ -28,20 +29,6 @@ pub fn start<'a>(bytes: &'a [u8]) -> Reader<'a>
     ensures { λ r. ⌜ r ≡ standing (bytes .entry) 0 ⌝ }
 {
     Reader { bytes, at: 0 }
-}
-
-// The reader moved on, on the same bytes.
-pub fn moved<'a>(r: Reader<'a>, at: usize) -> Reader<'a>
-    ensures { λ q. ⌜ q ≡ standing (r .entry .bytes) at ⌝ }
-{
-    Reader { bytes: r.bytes, at }
-}
-
-// A reader that stands at a place.
-pub fn stand<'a>(bytes: &'a [u8], at: usize) -> Reader<'a>
-    ensures { λ r. ⌜ r ≡ standing (bytes .entry) at ⌝ }
-{
-    moved(start(bytes), at)
 }
 
 // What stands where the reader stands: each takes it apart and leaves loops and branches to a function of the bytes and the place.
@@ -81,39 +68,20 @@ pub fn next_ranges<'a>(r: Reader<'a>, roles: u64, admins: u64) -> RangesRead
     read_ranges(r.bytes, r.at, roles, admins)
 }
 
-// The same for a caller that has the bytes and a place.
-pub fn number_from(s: &[u8], at: usize) -> Num
-    ensures { λ n. ⌜ n ≡ numAt (now (s .entry)) at ⌝ }
+// The place past a section that ended so: where it is refused there is nothing more to read, and the place is the end.
+fn place_past(s: &[u8], how: Ended) -> usize
+    ensures { λ r. ⌜ r ≡ pastBy (now (s .entry)) how ⌝ }
 {
-    next_number(stand(s, at))
+    match how {
+        Ended::At(e) => e,
+        Ended::Stopped(_, _) => s.len(),
+    }
 }
 
-pub fn order_from(s: &[u8], at: usize, all: u64) -> OrderRead
-    ensures { λ o. ⌜ o ≡ orderRead (orderAt (now (s .entry)) all at) ⌝ }
+// The reader past what it has read.
+pub fn past<'a>(r: Reader<'a>, how: Ended) -> Reader<'a>
+    ensures { λ q. ⌜ q ≡ standing (r .entry .bytes) (pastBy (now (r .entry .bytes)) how) ⌝ }
 {
-    next_order(stand(s, at), all)
-}
-
-pub fn people_from(s: &[u8], at: usize, roles: u64, admins: u64) -> PeopleRead
-    ensures { λ p. ⌜ p ≡ peopleRead (peopleAt (now (s .entry)) roles admins at) ⌝ }
-{
-    next_people(stand(s, at), roles, admins)
-}
-
-pub fn members_from(s: &[u8], at: usize, roles: u64) -> MembersRead
-    ensures { λ m. ⌜ m ≡ membersRead (membersAt (now (s .entry)) roles at) ⌝ }
-{
-    next_members(stand(s, at), roles)
-}
-
-pub fn table_from(s: &[u8], at: usize, roles: u64, admins: u64, assign: bool) -> TableRead
-    ensures { λ t. ⌜ t ≡ tableRead (tableAt (now (s .entry)) assign roles admins at) ⌝ }
-{
-    next_table(stand(s, at), roles, admins, assign)
-}
-
-pub fn ranges_from(s: &[u8], at: usize, roles: u64, admins: u64) -> RangesRead
-    ensures { λ t. ⌜ t ≡ rangesRead (rangesAt (now (s .entry)) roles admins at) ⌝ }
-{
-    next_ranges(stand(s, at), roles, admins)
+    let at = place_past(r.bytes, how);
+    Reader { bytes: r.bytes, at }
 }

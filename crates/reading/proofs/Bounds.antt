@@ -18,8 +18,7 @@ use Rattle.faults.specs.Faults.{fault}
 use Rattle.faults.proofs.Means.{fault-number}
 use Rattle.reading.specs.declared.Front.{Front}
 use Rattle.reading.specs.declared.Places.{Places}
-use Rattle.reading.specs.declared.Rest.{Rest}
-use Rattle.reading.specs.File.{oneAt, frontAt, restAt, file, judge, fileAt}
+use Rattle.reading.specs.File.{oneAt, frontAt, Rest, restAt, file, judge, fileAt}
 use Rattle.reading.proofs.Right.{FrontSteps, RestSteps}
 
 module _ (s : List ℕ) where
@@ -27,7 +26,7 @@ module _ (s : List ℕ) where
   unfolding oneAt
   one-within h = tested-within s h (λ x. eqb x 1)
 
-  pub front-within : Within (length s) 0 (frontAt s)
+  pub front-within : Within (length s) 0 (frontAt s 0)
   unfolding frontAt
   front-within =
       within-num _ _ (one-within (omega arith)) (λ one a q k l.

@@ -3,3 +3,4 @@ pub mod Right
 pub mod Bounds
 pub mod Theorems
 pub mod Opened
+pub mod Turns

@@ -23,8 +23,7 @@ use Rattle.rows.specs.Rows.{tableAt, rangesAt}
 use Rattle.rows.proofs.Right.{TableRight, table-right, RangesRight, ranges-right}
 use Rattle.faults.specs.Faults.{fault}
 use Rattle.reading.specs.declared.Front.{Front}
-use Rattle.reading.specs.declared.Rest.{Rest}
-use Rattle.reading.specs.File.{oneAt, front, frontAt, rest, places, restAt, File, file, judge, fileAt}
+use Rattle.reading.specs.File.{oneAt, front, frontAt, Rest, rest, places, restAt, File, file, judge, fileAt}
 
 -- ---- before the tables
 
@@ -40,7 +39,7 @@ pub record FrontSteps (s : List ℕ) (e : ℕ) (f : Front) : Type 0 where
   pub people : peopleAt s (f .orders .roles .used) (f .orders .admins .used) third ≡ go fourth (f .people)
   pub permissions : membersAt s (f .orders .roles .used) fourth ≡ go e (f .permissions)
 
-pub front-steps : (s : List ℕ) {e : ℕ} {f : Front} → frontAt s ≡ go e f → FrontSteps s e f
+pub front-steps : (s : List ℕ) {e : ℕ} {f : Front} → frontAt s 0 ≡ go e f → FrontSteps s e f
 unfolding frontAt
 front-steps s {e} {f} q =
     let one = on-num (oneAt s 0) _ q in
@@ -52,7 +51,8 @@ front-steps s {e} {f} q =
   where
     with-ends : {x a b c d k : ℕ} {roles admins : Order} {people : People} {permissions : Members}
         → oneAt s 0 ≡ Value x a → orderAt s (allBelow 64) a ≡ go b roles
-        → orderAt s (allBelow 16) b ≡ go c admins → peopleAt s (roles .used) (admins .used) c ≡ go d people → membersAt s (roles .used) d ≡ go k permissions
+        → orderAt s (allBelow 16) b ≡ go c admins → peopleAt s (roles .used) (admins .used) c ≡ go d people
+        → membersAt s (roles .used) d ≡ go k permissions
         → go k (front roles admins people permissions) ≡ go e f → FrontSteps s e f
     with-ends {x} {a} {b} {c} {d} {k} {roles} {admins} {people} {permissions} one ro ad pe me q =
         let z : front roles admins people permissions ≡ f = cc in
@@ -98,8 +98,8 @@ rest-steps s roles admins a {end} {r} q =
     with-ends (t .2) (u .2) (v .2) (w .2) (m .2) (m .3)
   where
     with-ends : {b c d e k : ℕ} {assign revoke assignp revokep : Table} {modify : Ranges} → tableAt s true roles admins a ≡ go b assign
-        → tableAt s false roles admins b ≡ go c revoke → tableAt s true roles admins c ≡ go d assignp → tableAt s false roles admins d ≡ go e revokep
-        → rangesAt s roles admins e ≡ go k modify
+        → tableAt s false roles admins b ≡ go c revoke → tableAt s true roles admins c ≡ go d assignp
+        → tableAt s false roles admins d ≡ go e revokep → rangesAt s roles admins e ≡ go k modify
         → go k (rest assign revoke assignp revokep modify (places a b c d e k)) ≡ go end r
         → RestSteps s roles admins a end r
     with-ends {b} {c} {d} {e} {k} {assign} {revoke} {assignp} {revokep} {modify} ta tr tp tq tm q =
@@ -158,7 +158,7 @@ pub record Whole (s : List ℕ) (e : ℕ) (x : File) : Type 0 where
 pub file-whole : (s : List ℕ) {e : ℕ} {x : File} → fileAt s ≡ go e x → Whole s e x
 unfolding fileAt
 file-whole s {e} {x} q =
-    let f = on-step (frontAt s) _ q in
+    let f = on-step (frontAt s 0) _ q in
     let r = on-step (restAt s (f .1 .orders .roles .used) (f .1 .orders .admins .used) (f .0)) _ (f .3) in
     record {
       front = f .1;

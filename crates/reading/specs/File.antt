@@ -9,23 +9,18 @@ use Rattle.order.specs.declared.Order.{Order}
 use Rattle.policy.specs.declared.Members.{Members}
 use Rattle.policy.specs.declared.People.{People}
 use Rattle.policy.specs.declared.Table.{Table}
+use Rattle.policy.specs.declared.Tables.{Tables}
 use Rattle.policy.specs.declared.Ranges.{Ranges}
 use Rattle.policy.specs.declared.Policy.{Policy}
 use Rattle.policy.specs.Build.{emptyPolicy}
 use Rattle.number.specs.Number.{numAt, tested}
 use Rattle.number.specs.Run.{Step, go, stop, onNum, onStep}
 use Rattle.number.specs.declared.Num.{Num}
-use Rattle.sections.specs.declared.Ended.{Ended}
-use Rattle.sections.specs.declared.Ended.the-variants.{At, Stopped}
 use Rattle.sections.specs.Sections.{allBelow, orderAt, peopleAt, membersAt}
 use Rattle.rows.specs.Rows.{tableAt, rangesAt}
 use Rattle.reading.specs.declared.Front.{Front}
-use Rattle.reading.specs.declared.FrontRead.{FrontRead}
 use Rattle.reading.specs.declared.Places.{Places}
-use Rattle.reading.specs.declared.Rest.{Rest}
-use Rattle.reading.specs.declared.RestRead.{RestRead}
 use Rattle.reading.specs.declared.How.the-variants.{Accepted, Refused}
-use Rattle.reading.specs.declared.FileRead.{FileRead}
 use Rattle.reading.specs.declared.Loaded.{Loaded}
 use Rattle.faults.specs.Faults.{fault}
 
@@ -40,13 +35,18 @@ abbrev pub front : Order → Order → People → Members → Front
 front roles admins people permissions =
     record { orders = record { roles = roles; admins = admins }; people = people; permissions = permissions }
 
-unfoldable pub frontAt : List ℕ → Step Front
-frontAt s =
-    onNum (oneAt s 0) (λ one a. onStep (orderAt s (allBelow 64) a) (λ b roles. onStep (orderAt s (allBelow 16) b) (λ c admins.
+unfoldable pub frontAt : List ℕ → ℕ → Step Front
+frontAt s at =
+    onNum (oneAt s at) (λ one a. onStep (orderAt s (allBelow 64) a) (λ b roles. onStep (orderAt s (allBelow 16) b) (λ c admins.
     onStep (peopleAt s (roles .used) (admins .used) c) (λ d people. onStep (membersAt s (roles .used) d) (λ e permissions.
     go e (front roles admins people permissions))))))
 
 -- ---- "then five tables, each a count and rows: can-assign, can-revoke, the same two for permissions, can-modify"
+
+pub record Rest : Type 0 where
+  pub tables : Tables
+  pub modify : Ranges
+  pub places : Places
 
 abbrev pub rest : Table → Table → Table → Table → Ranges → Places → Rest
 rest assign revoke assignp revokep modify places =
@@ -89,7 +89,7 @@ judge s end f r =
 
 unfoldable pub fileAt : List ℕ → Step File
 fileAt s =
-    onStep (frontAt s) (λ at f. onStep (restAt s (f .orders .roles .used) (f .orders .admins .used) at) (λ end r. judge s end f r))
+    onStep (frontAt s 0) (λ at f. onStep (restAt s (f .orders .roles .used) (f .orders .admins .used) at) (λ end r. judge s end f r))
 
 -- "A refused read yields a policy with nothing in it."
 abbrev pub loaded : Step File → Loaded
@@ -98,39 +98,3 @@ loaded (stop c p) = record { how = Refused c p; policy = emptyPolicy }
 
 unfoldable pub readPolicy : List ℕ → Loaded
 readPolicy s = loaded (fileAt s)
-
--- ---- how each part is answered: where it is refused, with nothing in it
-
-abbrev pub noFront : Ended → FrontRead
-noFront h =
-    record { how = h; front = record { orders = emptyPolicy .orders; people = emptyPolicy .people; permissions = emptyPolicy .permissions } }
-
-abbrev pub frontRead : Step Front → FrontRead
-frontRead (go e f) = record { how = At e; front = f }
-frontRead (stop c p) = noFront (Stopped c p)
-
-abbrev pub noPlaces : Places
-noPlaces = places 0 0 0 0 0 0
-
-abbrev pub noRest : Ended → RestRead
-noRest h = record { how = h; rest = record { tables = emptyPolicy .tables; modify = emptyPolicy .modify; places = noPlaces } }
-
-abbrev pub restRead : Step Rest → RestRead
-restRead (go e r) = record { how = At e; rest = r }
-restRead (stop c p) = noRest (Stopped c p)
-
-abbrev pub noFile : ℕ → ℕ → FileRead
-noFile c p = record { how = Refused c p; policy = emptyPolicy; places = noPlaces }
-
-abbrev pub whole : Front → Rest → FileRead
-whole f r = record { how = Accepted; policy = file f r .policy; places = r .places }
-
--- Of a part that was refused. It is asked of no other; a function has an answer for every `Ended`, so one that was not refused gets a number that
--- no refusal has.
-abbrev pub stopped : Ended → FileRead
-stopped (At e) = noFile 0 0
-stopped (Stopped c p) = noFile c p
-
-abbrev pub fileRead : Step File → FileRead
-fileRead (go end f) = record { how = Accepted; policy = f .policy; places = f .places }
-fileRead (stop c p) = noFile c p

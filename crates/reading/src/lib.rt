@@ -1,7 +1,10 @@
 // The policy file, whole: its sections in document 01's order, then what is looked at once all of it is read.
 ghost use mathlib.Core.Path.{_≡_};
-ghost use Rattle.number.specs.declared.Num.{Num};
-ghost use Rattle.reading.specs.File.{oneAt, front, noFront, frontAt, frontRead, places, rest, noRest, restAt, restRead, noFile, stopped, whole, fileAt, fileRead, readPolicy};
+ghost use Prim.Native.Nat.{_≤_};
+ghost use Rattle.sections.specs.Numbers.{endedBy};
+ghost use Rattle.reading.specs.File.{front, frontAt, places, fileAt, readPolicy};
+ghost use Rattle.reading.specs.Joined.{isOne, both, joinFront, restEnd, howOf, judged};
+ghost use Rattle.reading.specs.Joined.{FrontGiven, restOn, RestGiven, FileGiven, nothingRead};
 use faults::fault;
 use number::Num;
 use order::Order;
@@ -10,16 +13,23 @@ use policy::Orders;
 use policy::People;
 use policy::Policy;
 use policy::Ranges;
-use policy::Table;
 use policy::Tables;
 use policy::empty_policy;
-use reader::members_from;
-use reader::number_from;
-use reader::order_from;
-use reader::people_from;
-use reader::ranges_from;
-use reader::table_from;
+use reader::Reader;
+use reader::next_members;
+use reader::next_number;
+use reader::next_order;
+use reader::next_people;
+use reader::next_ranges;
+use reader::next_table;
+use reader::past;
+use reader::start;
+use rows::RangesRead;
+use rows::TableRead;
 use sections::Ended;
+use sections::MembersRead;
+use sections::OrderRead;
+use sections::PeopleRead;
 use sections::ended_by;
 
 // The numbers that roles and administrative roles can have, as sets.
@@ -49,18 +59,6 @@ pub struct Places {
     pub end: usize,
 }
 
-// The five tables.
-pub struct Rest {
-    pub tables: Tables,
-    pub modify: Ranges,
-    pub places: Places,
-}
-
-pub struct RestRead {
-    pub how: Ended,
-    pub rest: Rest,
-}
-
 // How the reading of a file ends.
 pub enum How {
     Accepted,
@@ -79,31 +77,27 @@ pub struct Loaded {
     pub policy: Policy,
 }
 
-// The first number, which is 1.
-fn read_one(s: &[u8], at: usize) -> Num
-    ensures { λ r. ⌜ r ≡ oneAt (now (s .entry)) at ⌝ }
+// How the first number ends, which is 1.
+fn first_end(n: Num, at: usize) -> Ended
+    ensures { λ r. ⌜ r ≡ endedBy (isOne at n) ⌝ }
 {
-    let n = number_from(s, at);
     let Num::Value(x, _) = n else {
-        return n;
+        return ended_by(n);
     };
-    if x == 1 { n } else { Num::Refused(22, at) }
+    if x == 1 {
+        ended_by(n)
+    } else {
+        Ended::Stopped(22, at)
+    }
 }
 
-fn no_front(how: Ended) -> FrontRead
-    ensures { λ r. ⌜ r ≡ noFront how ⌝ }
+// How two sections end, one after the other: as the second does, unless the first is refused.
+fn both(first: Ended, then: Ended) -> Ended
+    ensures { λ r. ⌜ r ≡ both first then ⌝ }
 {
-    let none = empty_policy();
-    let orders = none.orders;
-    let people = none.people;
-    let permissions = none.permissions;
-    FrontRead {
-        how,
-        front: Front {
-            orders,
-            people,
-            permissions,
-        },
+    match first {
+        Ended::At(_) => then,
+        Ended::Stopped(_, _) => first,
     }
 }
 
@@ -117,40 +111,36 @@ fn make_front(roles: Order, admins: Order, people: People, permissions: Members)
     }
 }
 
-// The first number, both orders, users and permissions: a reader stands where the section before it ends.
-fn read_front(s: &[u8]) -> FrontRead
-    ensures { λ r. ⌜ r ≡ frontRead (frontAt (now (s .entry))) ⌝ }
+// What was read before the tables: where a section is refused nobody looks at more than `how`.
+fn join_front(one: Ended, o: OrderRead, p: OrderRead, u: PeopleRead, m: MembersRead) -> FrontRead
+    ensures { λ r. ⌜ r ≡ joinFront one o p u m ⌝ }
 {
-    let n = read_one(s, 0);
-    let Num::Value(_, a) = n else {
-        return no_front(ended_by(n));
-    };
-    let r = order_from(s, a, ROLES);
-    let hr = r.how;
-    let Ended::At(b) = hr else {
-        return no_front(hr);
-    };
-    let roles = r.order;
-    let o = order_from(s, b, ADMINS);
     let ho = o.how;
-    let Ended::At(c) = ho else {
-        return no_front(ho);
-    };
-    let admins = o.order;
-    let u = people_from(s, c, roles.used, admins.used);
-    let hu = u.how;
-    let Ended::At(d) = hu else {
-        return no_front(hu);
-    };
-    let p = members_from(s, d, roles.used);
     let hp = p.how;
-    let Ended::At(e) = hp else {
-        return no_front(hp);
-    };
+    let hu = u.how;
+    let hm = m.how;
+    let how = both(one, both(ho, both(hp, both(hu, hm))));
     FrontRead {
-        how: Ended::At(e),
-        front: make_front(roles, admins, u.people, p.members),
+        how,
+        front: make_front(o.order, p.order, u.people, m.members),
     }
+}
+
+// The first number, both orders, users and permissions: the reader goes from each to the next.
+fn read_front<'a>(r: Reader<'a>) -> FrontRead
+    ensures { λ f. ⌜ FrontGiven (frontAt (now (r .entry .bytes)) (r .entry .at)) f ⌝ }
+{
+    let n = next_number(r);
+    let one = first_end(n, r.at);
+    let a = past(r, one);
+    let o = next_order(a, ROLES);
+    let b = past(a, o.how);
+    let p = next_order(b, ADMINS);
+    let c = past(b, p.how);
+    let u = next_people(c, o.order.used, p.order.used);
+    let d = past(c, u.how);
+    let m = next_members(d, o.order.used);
+    join_front(one, o, p, u, m)
 }
 
 fn make_places(a: usize, b: usize, c: usize, d: usize, e: usize, end: usize) -> Places
@@ -166,160 +156,132 @@ fn make_places(a: usize, b: usize, c: usize, d: usize, e: usize, end: usize) -> 
     }
 }
 
-fn no_rest(how: Ended) -> RestRead
-    ensures { λ r. ⌜ r ≡ noRest how ⌝ }
+// How the five tables end, one after the other.
+fn rest_end(ta: TableRead, tr: TableRead, tp: TableRead, tq: TableRead, tm: RangesRead) -> Ended
+    ensures { λ r. ⌜ r ≡ restEnd ta tr tp tq tm ⌝ }
 {
-    let none = empty_policy();
-    let tables = none.tables;
-    let modify = none.modify;
-    let places = make_places(0, 0, 0, 0, 0, 0);
-    RestRead {
-        how,
-        rest: Rest {
-            tables,
-            modify,
-            places,
-        },
-    }
-}
-
-fn make_rest(
-    assign: Table,
-    revoke: Table,
-    assignp: Table,
-    revokep: Table,
-    modify: Ranges,
-    places: Places,
-) -> Rest
-    ensures { λ r. ⌜ r ≡ rest assign revoke assignp revokep modify places ⌝ }
-{
-    Rest {
-        tables: Tables {
-            assign,
-            revoke,
-            assignp,
-            revokep,
-        },
-        modify,
-        places,
-    }
-}
-
-// The five tables: a reader stands where the table before it ends.
-fn read_rest(s: &[u8], at: usize, roles: u64, admins: u64) -> RestRead
-    ensures { λ r. ⌜ r ≡ restRead (restAt (now (s .entry)) roles admins at) ⌝ }
-{
-    let ta = table_from(s, at, roles, admins, true);
     let ha = ta.how;
-    let Ended::At(b) = ha else {
-        return no_rest(ha);
-    };
-    let tr = table_from(s, b, roles, admins, false);
     let hr = tr.how;
-    let Ended::At(c) = hr else {
-        return no_rest(hr);
-    };
-    let tp = table_from(s, c, roles, admins, true);
     let hp = tp.how;
-    let Ended::At(d) = hp else {
-        return no_rest(hp);
-    };
-    let tq = table_from(s, d, roles, admins, false);
     let hq = tq.how;
-    let Ended::At(e) = hq else {
-        return no_rest(hq);
-    };
-    let tm = ranges_from(s, e, roles, admins);
     let hm = tm.how;
-    let Ended::At(end) = hm else {
-        return no_rest(hm);
-    };
-    let places = make_places(at, b, c, d, e, end);
-    RestRead {
-        how: Ended::At(end),
-        rest: make_rest(ta.table, tr.table, tp.table, tq.table, tm.ranges, places),
-    }
+    both(ha, both(hr, both(hp, both(hq, hm))))
 }
 
-// A refused read yields a policy with nothing in it.
-fn no_file(code: u8, place: usize) -> FileRead
-    ensures { λ r. ⌜ r ≡ noFile code place ⌝ }
+// How the reading ends: the first refusal of a section, else 27, else 23 to 26, else it is accepted.
+fn how_of(s: &[u8], end: usize, how: Ended, orders: Orders, modify: Ranges) -> How
+    requires { ⌜ modify .count ≤ 64 ⌝ }
+    ensures { λ r. ⌜ r ≡ howOf (now (s .entry)) end how orders modify ⌝ }
 {
-    let policy = empty_policy();
-    let places = make_places(0, 0, 0, 0, 0, 0);
-    FileRead {
-        how: How::Refused(code, place),
-        policy,
-        places,
+    if let Ended::Stopped(c, p) = how {
+        return How::Refused(c, p);
     }
+    if end < s.len() {
+        return How::Refused(27, end);
+    }
+    let n = fault(orders, modify);
+    if n != 0 {
+        return How::Refused(n, 0);
+    }
+    How::Accepted
 }
 
-fn stopped(h: Ended) -> FileRead
-    ensures { λ r. ⌜ r ≡ stopped h ⌝ }
+// What was read, put together: where it is refused nobody looks at more than `how`.
+fn judged(
+    s: &[u8],
+    f: FrontRead,
+    ta: TableRead,
+    tr: TableRead,
+    tp: TableRead,
+    tq: TableRead,
+    tm: RangesRead,
+    places: Places,
+) -> FileRead
+    requires { ⌜ tm .ranges .count ≤ 64 ⌝ }
+    ensures { λ r. ⌜ r ≡ judged (now (s .entry)) f ta tr tp tq tm places ⌝ }
 {
-    match h {
-        Ended::At(_) => no_file(0, 0),
-        Ended::Stopped(c, p) => no_file(c, p),
-    }
-}
-
-fn whole(front: Front, rest: Rest) -> FileRead
-    ensures { λ r. ⌜ r ≡ whole front rest ⌝ }
-{
+    let before = f.how;
+    let end = places.end;
+    let front = f.front;
     let orders = front.orders;
     let people = front.people;
     let permissions = front.permissions;
-    let tables = rest.tables;
-    let modify = rest.modify;
-    let places = rest.places;
+    let assign = ta.table;
+    let revoke = tr.table;
+    let assignp = tp.table;
+    let revokep = tq.table;
+    let modify = tm.ranges;
+    let how = how_of(
+        s,
+        end,
+        both(before, rest_end(ta, tr, tp, tq, tm)),
+        orders,
+        modify,
+    );
     FileRead {
-        how: How::Accepted,
+        how,
         policy: Policy {
             orders,
             people,
             permissions,
-            tables,
+            tables: Tables {
+                assign,
+                revoke,
+                assignp,
+                revokep,
+            },
             modify,
         },
         places,
     }
 }
 
-// The policy, and where its tables stand.
-pub fn read_file(s: &[u8]) -> FileRead
-    ensures { λ r. ⌜ r ≡ fileRead (fileAt (now (s .entry))) ⌝ }
+// The five tables, and the whole with what stands before them: the reader goes from each to the next.
+fn read_rest<'a>(r: Reader<'a>, roles: u64, admins: u64, f: FrontRead) -> FileRead
+    ensures { λ z. ⌜ RestGiven (f .how) (restOn (now (r .entry .bytes)) roles admins (r .entry .at) (f .front)) z ⌝ }
 {
-    let f = read_front(s);
-    let hf = f.how;
-    let Ended::At(at) = hf else {
-        return stopped(hf);
-    };
-    let front = f.front;
-    let orders = front.orders;
-    let roles = orders.roles;
-    let admins = orders.admins;
-    let t = read_rest(s, at, roles.used, admins.used);
-    let ht = t.how;
-    let Ended::At(end) = ht else {
-        return stopped(ht);
-    };
-    let rest = t.rest;
-    if end < s.len() {
-        return no_file(27, end);
-    }
-    let modify = rest.modify;
-    let n = fault(orders, modify);
-    if n != 0 {
-        return no_file(n, 0);
-    }
-    whole(front, rest)
+    let ta = next_table(r, roles, admins, true);
+    let b = past(r, ta.how);
+    let tr = next_table(b, roles, admins, false);
+    let c = past(b, tr.how);
+    let tp = next_table(c, roles, admins, true);
+    let d = past(c, tp.how);
+    let tq = next_table(d, roles, admins, false);
+    let e = past(d, tq.how);
+    let tm = next_ranges(e, roles, admins);
+    let g = past(e, tm.how);
+    let places = make_places(r.at, b.at, c.at, d.at, e.at, g.at);
+    judged(g.bytes, f, ta, tr, tp, tq, tm, places)
 }
 
+// The policy, and where its tables stand: one reader goes through the file.
+pub fn read_file(s: &[u8]) -> FileRead
+    ensures { λ r. ⌜ FileGiven (fileAt (now (s .entry))) r ⌝ }
+{
+    let r = start(s);
+    let f = read_front(r);
+    let a = past(r, f.how);
+    read_rest(a, f.front.orders.roles.used, f.front.orders.admins.used, f)
+}
+
+fn nothing_read(how: How) -> Loaded
+    ensures { λ r. ⌜ r ≡ nothingRead how ⌝ }
+{
+    let policy = empty_policy();
+    Loaded { how, policy }
+}
+
+// A refused read yields a policy with nothing in it.
 pub fn read_policy(s: &[u8]) -> Loaded
     ensures { λ r. ⌜ r ≡ readPolicy (now (s .entry)) ⌝ }
 {
     let f = read_file(s);
     let how = f.how;
-    let policy = f.policy;
-    Loaded { how, policy }
+    match how {
+        How::Accepted => {
+            let policy = f.policy;
+            Loaded { how, policy }
+        }
+        How::Refused(_, _) => nothing_read(how),
+    }
 }

@@ -29,9 +29,8 @@ use Rattle.sections.specs.Sections.{allBelow, juniorStep, juniorsAt, orderAt, p
 use Rattle.rows.specs.Rows.{row, rangeAt, conditionAt, tableRowAt, table, rowStep, tableAt, ranges, rangeStep, rangesAt}
 use Rattle.faults.specs.Faults.{fault}
 use Rattle.reading.specs.declared.Front.{Front}
-use Rattle.reading.specs.declared.Rest.{Rest}
 use Rattle.reading.specs.declared.How.the-variants as how
-use Rattle.reading.specs.File.{oneAt, frontAt, restAt, file, judge, fileAt, readPolicy}
+use Rattle.reading.specs.File.{oneAt, frontAt, Rest, restAt, file, judge, fileAt, readPolicy}
 use Rattle.reading.proofs.Theorems.{of-refused, file-end}
 use Rattle.parts.specs.declared.Part.the-variants.{Found}
 use Rattle.parts.specs.Parts.{partAt}
@@ -241,7 +240,7 @@ module _ (s : List ℕ) where
 
   -- ---- the file
 
-  front-until : Until 9010 (frontAt s)
+  front-until : Until 9010 (frontAt s 0)
   unfolding frontAt oneAt
   front-until =
       until-num _ _ (omega arith) (tested-until s {u = 0} (omega arith) (λ x. eqb x 1)) (λ one a q k.

@@ -66,7 +66,7 @@ module _ (p : Policy) (g : Good p) where
 
   -- ---- what stands before the tables
   pub front-read : (s : List ℕ) → Stands s 0 (sectionsBytes (p .orders .roles) (p .orders .admins) (p .people) (p .permissions))
-      → frontAt s ≡ go (length (sectionsBytes (p .orders .roles) (p .orders .admins) (p .people) (p .permissions)))
+      → frontAt s 0 ≡ go (length (sectionsBytes (p .orders .roles) (p .orders .admins) (p .people) (p .permissions)))
       (front (p .orders .roles) (p .orders .admins) (p .people) (p .permissions))
   unfolding frontAt oneAt sectionsBytes
   front-read s w =

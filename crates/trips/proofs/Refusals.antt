@@ -16,9 +16,8 @@ use Rattle.policy.proofs.FirstLaws.{names as has-number, distinct, leads, first
 use Rattle.number.specs.Run.{go, stop}
 use Rattle.faults.specs.Faults.{notStrict, someLow, someOpen, twoOverlap, fault}
 use Rattle.reading.specs.declared.Front.{Front}
-use Rattle.reading.specs.declared.Rest.{Rest}
 use Rattle.reading.specs.declared.How.the-variants as how
-use Rattle.reading.specs.File.{frontAt, restAt, file, judge, fileAt, readPolicy}
+use Rattle.reading.specs.File.{frontAt, Rest, restAt, file, judge, fileAt, readPolicy}
 use Rattle.reading.proofs.Theorems.{of-refused}
 use Rattle.trips.specs.Refusals.{RefusedBy, first-number, in-roles, in-admins, in-users, in-permissions}
 use Rattle.trips.specs.Refusals.{in-assign, in-revoke, in-assignp, in-revokep, in-modify, left-over, at-fault}
@@ -37,12 +36,12 @@ module _ (s : List ℕ) where
     file-of q = rw q
 
     -- a number before the tables
-    front-of : frontAt s ≡ stop c p → readPolicy s .how ≡ how.Refused c p
+    front-of : frontAt s 0 ≡ stop c p → readPolicy s .how ≡ how.Refused c p
     unfolding fileAt
     front-of q = file-of (rw q)
 
     -- a number in the tables
-    rest-of : {a : ℕ} {f : Front} → frontAt s ≡ go a f → restAt s (rolesOf f) (adminsOf f) a ≡ stop c p
+    rest-of : {a : ℕ} {f : Front} → frontAt s 0 ≡ go a f → restAt s (rolesOf f) (adminsOf f) a ≡ stop c p
         → readPolicy s .how ≡ how.Refused c p
     unfolding fileAt
     rest-of q t = file-of (rw (q, t))
@@ -66,7 +65,7 @@ module _ (s : List ℕ) where
   -- ---- from the refusal to what failed
   module _ {c p : ℕ} where
     -- which number before the tables it is
-    before-tables : frontAt s ≡ stop c p → RefusedBy s c p
+    before-tables : frontAt s 0 ≡ stop c p → RefusedBy s c p
     unfolding frontAt
     before-tables q =
         num-stopped _ _ q (λ r. first-number (first-refused s _ .0 r)) (λ one a v q.
@@ -76,7 +75,7 @@ module _ (s : List ℕ) where
         step-stopped _ _ q (λ r. in-permissions v w u x (members-refused s _ _ .0 r)) (λ end m y q. not-stopped q)))))
 
     -- which number in the tables it is
-    in-tables : {a : ℕ} {f : Front} → frontAt s ≡ go a f
+    in-tables : {a : ℕ} {f : Front} → frontAt s 0 ≡ go a f
         → restAt s (rolesOf f) (adminsOf f) a ≡ stop c p → RefusedBy s c p
     unfolding restAt
     in-tables w q =
@@ -87,7 +86,7 @@ module _ (s : List ℕ) where
         step-stopped _ _ q (λ r. in-modify w v x y z (ranges-refused s _ _ _ .0 r)) (λ end m k q. not-stopped q)))))
 
     -- 27, and 23 to 26
-    judged-by : {at end : ℕ} {f : Front} {r : Rest} → frontAt s ≡ go at f
+    judged-by : {at end : ℕ} {f : Front} {r : Rest} → frontAt s 0 ≡ go at f
         → restAt s (rolesOf f) (adminsOf f) at ≡ go end r → judge s end f r ≡ stop c p → RefusedBy s c p
     unfolding judge
     judged-by {at} {end} {f} {r} q t e = by (ltb end (length s)) refl (eqb n 0) refl e

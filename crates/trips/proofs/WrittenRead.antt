@@ -17,8 +17,7 @@ use Rattle.number.proofs.Tested.{tested-was}
 use Rattle.sections.specs.Sections.{allBelow}
 use Rattle.reading.specs.declared.How.the-variants.{Accepted}
 use Rattle.reading.specs.declared.Front.{Front}
-use Rattle.reading.specs.declared.Rest.{Rest}
-use Rattle.reading.specs.File.{oneAt, File, fileAt, loaded, readPolicy}
+use Rattle.reading.specs.File.{oneAt, Rest, File, fileAt, loaded, readPolicy}
 use Rattle.reading.proofs.Right.{FrontSteps, RestSteps, file-whole}
 use Rattle.reading.proofs.Theorems.{file-end}
 use Rattle.parts.specs.Parts.{isTable, startOf, endOf, partBytes}

@@ -31,8 +31,7 @@ use Rattle.sections.specs.Sections.{allBelow, juniorStep, orderAt, people, user
 use Rattle.rows.specs.Rows.{rangeAt, table, rowStep, tableAt, ranges, rangeStep}
 use Rattle.faults.specs.Faults.{fault}
 use Rattle.reading.specs.declared.Front.{Front}
-use Rattle.reading.specs.declared.Rest.{Rest}
-use Rattle.reading.specs.File.{oneAt, frontAt, restAt}
+use Rattle.reading.specs.File.{oneAt, frontAt, Rest, restAt}
 
 -- ---- one number: the one whose first byte stands at a place, and which has to pass a test
 
@@ -131,20 +130,20 @@ pub data RefusedBy (s : List ℕ) (c p : ℕ) : Type 0 where
       → orderAt s (allBelow 16) b ≡ go d admins → peopleAt s (roles .used) (admins .used) d ≡ go e users
       → MembersFails s (roles .used) e c p → RefusedBy s c p
   -- .. and the five tables, from where the sections before them end
-  in-assign : {a : ℕ} {f : Front} → frontAt s ≡ go a f → TableFails s true (rolesOf f) (adminsOf f) a c p → RefusedBy s c p
-  in-revoke : {a b : ℕ} {f : Front} {t : Table} → frontAt s ≡ go a f → tableAt s true (rolesOf f) (adminsOf f) a ≡ go b t
+  in-assign : {a : ℕ} {f : Front} → frontAt s 0 ≡ go a f → TableFails s true (rolesOf f) (adminsOf f) a c p → RefusedBy s c p
+  in-revoke : {a b : ℕ} {f : Front} {t : Table} → frontAt s 0 ≡ go a f → tableAt s true (rolesOf f) (adminsOf f) a ≡ go b t
       → TableFails s false (rolesOf f) (adminsOf f) b c p → RefusedBy s c p
-  in-assignp : {a b d : ℕ} {f : Front} {t u : Table} → frontAt s ≡ go a f → tableAt s true (rolesOf f) (adminsOf f) a ≡ go b t
+  in-assignp : {a b d : ℕ} {f : Front} {t u : Table} → frontAt s 0 ≡ go a f → tableAt s true (rolesOf f) (adminsOf f) a ≡ go b t
       → tableAt s false (rolesOf f) (adminsOf f) b ≡ go d u → TableFails s true (rolesOf f) (adminsOf f) d c p → RefusedBy s c p
-  in-revokep : {a b d e : ℕ} {f : Front} {t u v : Table} → frontAt s ≡ go a f → tableAt s true (rolesOf f) (adminsOf f) a ≡ go b t
+  in-revokep : {a b d e : ℕ} {f : Front} {t u v : Table} → frontAt s 0 ≡ go a f → tableAt s true (rolesOf f) (adminsOf f) a ≡ go b t
       → tableAt s false (rolesOf f) (adminsOf f) b ≡ go d u → tableAt s true (rolesOf f) (adminsOf f) d ≡ go e v
       → TableFails s false (rolesOf f) (adminsOf f) e c p → RefusedBy s c p
-  in-modify : {a b d e g : ℕ} {f : Front} {t u v w : Table} → frontAt s ≡ go a f → tableAt s true (rolesOf f) (adminsOf f) a ≡ go b t
+  in-modify : {a b d e g : ℕ} {f : Front} {t u v w : Table} → frontAt s 0 ≡ go a f → tableAt s true (rolesOf f) (adminsOf f) a ≡ go b t
       → tableAt s false (rolesOf f) (adminsOf f) b ≡ go d u → tableAt s true (rolesOf f) (adminsOf f) d ≡ go e v
       → tableAt s false (rolesOf f) (adminsOf f) e ≡ go g w → RangesFails s (rolesOf f) (adminsOf f) g c p → RefusedBy s c p
   -- "Then: 27 bytes left over (place: the first)"
-  left-over : {at end : ℕ} {f : Front} {r : Rest} → frontAt s ≡ go at f → restAt s (rolesOf f) (adminsOf f) at ≡ go end r
+  left-over : {at end : ℕ} {f : Front} {r : Rest} → frontAt s 0 ≡ go at f → restAt s (rolesOf f) (adminsOf f) at ≡ go end r
       → end < length s → c ≡ 27 → p ≡ end → RefusedBy s c p
   -- 23 to 26, "place 0"
-  at-fault : {at end : ℕ} {f : Front} {r : Rest} → frontAt s ≡ go at f → restAt s (rolesOf f) (adminsOf f) at ≡ go end r
+  at-fault : {at end : ℕ} {f : Front} {r : Rest} → frontAt s 0 ≡ go at f → restAt s (rolesOf f) (adminsOf f) at ≡ go end r
       → length s ≤ end → c ≡ fault (f .orders) (r .modify) → (c ≡ 0 → ⊥) → p ≡ 0 → RefusedBy s c p

@@ -3,7 +3,8 @@ use mathlib.Core.Path.{_∙_, ap}
 use native.Mathlib.Omega.{arith}
 use Rattle.reading.specs.File.{fileAt}
 use Rattle.parts.specs.Parts.{refusalOf, partAt}
-use Rattle.parts.proofs.Laws.{file-got, file-lost, table-low, table-high, table-is, file-inside}
+use Rattle.reading.proofs.Laws.{file-got, file-lost}
+use Rattle.parts.proofs.Laws.{table-low, table-high, table-is, file-inside}
 use borrow.Author.Needs.{needs}
 use Rattle.parts.proofs.find_part.Statement.{statement}
 use Rattle.parts.proofs.find_part.Tie as tie
@@ -40,7 +41,7 @@ returns-3 c =
     let at-if1 = at-if2 .before in
     let at-args = at-if1 .before .before in
     let x = c .before .enum-told2 .given .1 in
-    let w = file-lost (fileAt _) (at-read-file .read-file .ensures) x in
+    let w = file-lost (fileAt _) _ (at-read-file .read-file .ensures) x in
     c .refusal-of .ensures ∙ ap refusalOf x ∙ rw (table-is (at-args .args .table) (at-if1 .if1 .left) (at-if2 .if2 .left), w)
 
 start-of-requires : tie.Need-start-of-requires
@@ -54,7 +55,8 @@ sub-t9 c =
     let at-enum-told = c .before .before .before in
     let at-read-file = at-enum-told .before .before in
     let at-args = at-read-file .before .before .before .before in
-    omega (arith, c .before .start-of .ensures, c .end-of .ensures, file-inside (at-args .args .table) (file-got (fileAt _) (at-read-file .read-file .ensures) (at-enum-told .enum-told .given .1) .1) .some)
+    let w = file-got (fileAt _) _ (at-read-file .read-file .ensures) (at-enum-told .enum-told .given .1) .1 in
+    omega (arith, c .before .start-of .ensures, c .end-of .ensures, file-inside (at-args .args .table) w .some)
 
 returns-4 : tie.Need-returns-4
 unfolding partAt
@@ -64,7 +66,7 @@ returns-4 c =
     let at-if2 = at-read-file .before in
     let at-if1 = at-if2 .before in
     let at-args = at-if1 .before .before in
-    let w = file-got (fileAt _) (at-read-file .read-file .ensures) (at-enum-told .enum-told .given .1) .1 in
+    let w = file-got (fileAt _) _ (at-read-file .read-file .ensures) (at-enum-told .enum-told .given .1) .1 in
     rw (table-is (at-args .args .table) (at-if1 .if1 .left) (at-if2 .if2 .left), w, c .before .start-of .ensures, c .end-of .ensures)
 
 pub find-part-spec : {M : Type 1} → statement M

@@ -1,0 +1,21 @@
+-- Assumes nothing.
+use borrow.Author.Needs.{needs}
+use Rattle.reading.proofs.judged.Statement.{statement}
+use Rattle.reading.proofs.judged.Tie as tie
+
+rest-end-requires : tie.Need-rest-end-requires
+rest-end-requires c κs = search needs
+
+both-requires : tie.Need-both-requires
+both-requires c κs = search needs
+
+how-of-requires : tie.Need-how-of-requires
+how-of-requires c κs = search needs
+
+returns : tie.Need-returns
+returns c =
+    let at-both = c .before in
+    rw (c .how-of .ensures, at-both .both .ensures, at-both .before .rest-end .ensures)
+
+pub judged-spec : {M : Type 1} → statement M
+judged-spec = tie.close (tie.spec rest-end-requires both-requires how-of-requires returns)
