@@ -7,12 +7,15 @@ use native.Mathlib.Omega.{arith}
 use borrow.Author.Tests.{ne-eqb}
 use lib.Dec.{eqb}
 use Rattle.policy.specs.declared.Answer.{Answer}
+use Rattle.policy.specs.declared.Policy.{Policy}
+use Rattle.policy.specs.Good.{Good}
+use Rattle.policy.specs.Outcome.{accepted}
 use Rattle.writing.specs.declared.Written.{Written}
 use Rattle.writing.specs.declared.Written.the-variants.{TooShort, Length}
 use Rattle.writing.specs.Writing.{Output, writtenOutcome, writtenLength}
 use Rattle.writing.proofs.Outputs.{length-most}
 use Rattle.answers.specs.Answers.{Fields, Fit, fields, packed, apart, refusal, ofWritten}
-use Rattle.answers.specs.Carried.{CarriedOut, Ready, carriedOut, carriedBytes}
+use Rattle.answers.specs.Carried.{CarriedOut, carriedOut, carriedBytes}
 
 pub fit-is : {f g : Fields} → f ≡ g → Fit f → Fit g
 fit-is {f} {g} q w = subst Fit q w
@@ -57,15 +60,16 @@ module _ (d : Answer) (o : List ℕ) where
       not-zero : eqb (d .outcome) 0 ≡ false
       not-zero = ne-eqb _ _ n
 
+module _ (p : Policy) (n : ℕ) (o : List ℕ) {w : Written} {a : List ℕ} (out : Output p o w a) where
   -- the policy after, written
-  pub written-carried : d .outcome ≡ 0 → {w : Written} {a : List ℕ} → Output (d .policy) o w a → {r : ℕ} → r ≡ packed (ofWritten (d .number) w) → CarriedOut d o r a
+  pub written-carried : {r : ℕ} → r ≡ packed (ofWritten n w) → CarriedOut (accepted p n) o r a
   unfolding carriedOut carriedBytes
-  written-carried z {w} {a} out q = record { answer = q ∙ rw (z, out .answer); bytes = out .bytes ∙ rw z }
+  written-carried q = record { answer = q ∙ rw (out .answer); bytes = out .bytes }
 
-  pub written-fits : Ready d → {w : Written} {a : List ℕ} → Output (d .policy) o w a → Fit (ofWritten (d .number) w)
+  pub written-fits : Good p → n < 256 → Fit (ofWritten n w)
   unfolding writtenOutcome writtenLength
-  written-fits ready {w} out = by w (length-most (d .policy) o out (ready .good))
+  written-fits g below = by w (length-most p o out g)
     where
-      by : (v : Written) → writtenLength v ≤ 10375 → Fit (ofWritten (d .number) v)
+      by : (v : Written) → writtenLength v ≤ 10375 → Fit (ofWritten n v)
       by TooShort l = fits (omega arith) (omega arith) (omega arith) (omega arith)
-      by (Length n) l = fits (omega arith) (ready .number) (omega arith) (omega (arith, l))
+      by (Length m) l = fits (omega arith) below (omega arith) (omega (arith, l))

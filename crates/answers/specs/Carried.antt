@@ -1,11 +1,10 @@
 -- A request that was decided, carried out: "Read, request, write: the first refusal is returned, with length 0."
-use Prim.Native.Nat.{ℕ, _<_}
+use Prim.Native.Nat.{ℕ}
 use mathlib.Core.Path.{_≡_}
 use mathlib.Core.List.{List}
 use lib.Dec.{eqb}
 use Rattle.sets.specs.Tests.{pick}
 use Rattle.policy.specs.declared.Answer.{Answer}
-use Rattle.policy.specs.Good.{Good}
 use Rattle.writing.specs.Writing.{answerOf, bytesAfter}
 use Rattle.answers.specs.Answers.{Fields, packed, refusal, ofWritten}
 
@@ -19,9 +18,3 @@ carriedBytes d before = pick (eqb (d .outcome) 0) (bytesAfter (d .policy) before
 pub record CarriedOut (d : Answer) (before : List ℕ) (r : ℕ) (after : List ℕ) : Type 0 where
   pub answer : r ≡ packed (carriedOut d before)
   pub bytes : after ≡ carriedBytes d before
-
--- what a decision on a good policy always is, so that the answer fits its bits
-pub record Ready (d : Answer) : Type 0 where
-  pub good : Good (d .policy)
-  pub outcome : d .outcome < 256
-  pub number : d .number < 256

@@ -1,10 +1,13 @@
 // The answer of an entry: outcome, number, place and length in one number.
 ghost use mathlib.Core.Path.{_≡_};
-ghost use Rattle.answers.specs.Answers.{fields, packed, Fit, ofFile, ofWritten, ofListed, ofReply, ofPart};
-ghost use Rattle.answers.specs.Carried.{CarriedOut, Ready};
+ghost use Prim.Native.Nat.{_<_};
+ghost use Rattle.policy.specs.Good.{Good};
+ghost use Rattle.policy.specs.Outcome.{accepted};
+ghost use Rattle.answers.specs.Answers.{fields, packed, refusal, Fit, ofFile, ofWritten, ofListed, ofReply, ofPart};
+ghost use Rattle.answers.specs.Carried.{CarriedOut};
 use listing::Listed;
 use parts::Part;
-use policy::Answer;
+use policy::Policy;
 use policy::Reply;
 use reading::How;
 use writing::Written;
@@ -69,17 +72,19 @@ pub fn of_part(part: Part) -> u64
     }
 }
 
-// Writes the policy that an accepted request leaves, and nothing of a refused one.
-pub fn carry_out(d: Answer, out: &mut [u8]) -> u64
-    requires { ⌜ Ready d ⌝ }
-    ensures { λ r. ⌜ CarriedOut d (now (out .entry)) r (now (out .exit)) ⌝ }
+// A request that is refused: nothing is written.
+pub fn of_refusal(outcome: u64) -> u64
+    requires { ⌜ outcome < 256 ⌝ }
+    ensures { λ r. ⌜ r ≡ packed (refusal outcome 0) ⌝ }
 {
-    let outcome = d.outcome;
-    let number = d.number;
-    let policy = d.policy;
-    if outcome != 0 {
-        return pack(outcome, 0, 0, 0);
-    }
-    let w = write_policy(policy, out);
+    pack(outcome, 0, 0, 0)
+}
+
+// Writes the policy that an accepted request leaves.
+pub fn carry_out(p: Policy, number: u64, out: &mut [u8]) -> u64
+    requires { ⌜ Good p × (number < 256) ⌝ }
+    ensures { λ r. ⌜ CarriedOut (accepted p number) (now (out .entry)) r (now (out .exit)) ⌝ }
+{
+    let w = write_policy(p, out);
     of_written(number, w)
 }

@@ -31,7 +31,7 @@ pub record SameAt (f g : Relation) (differs r : ℕ) : Type 0 where
 pub record SameOutside (used : ℕ) (f g : Relation) (differs : ℕ) : Type 0 where
   pub same : (r : ℕ) → has used r ≡ true → SameAt f g differs r
 
--- the same of one row, beside what is known of all rows: what the test of a row after the change is given
+-- what the test of one row after the change is given: the row was sound, and a set has all roles that do not stand as before
 pub record RowBefore (used : ℕ) (juniors seniors lower upper : List ℕ) (differs : ℕ) (row : ModifyRow) : Type 0 where
   pub seniors-before : Above juniors seniors
   pub seniors-after : Above lower upper
