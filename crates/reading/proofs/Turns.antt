@@ -201,7 +201,7 @@ module _ (s : List ℕ) (roles admins at : ℕ) {b c d e g : ℕ} {ta tr tp tq :
       (rest-4 s roles admins at b′ c′ d′ e′ (ta .table) (tr .table) (tp .table) (tq .table)))))))
 
   pub rest-joined : {ps : Places} → ps ≡ places at b c d e g → (f : FrontRead) (z : FileRead) → z ≡ judged s f ta tr tp tq tm ps
-      → RestGiven (f .how) (restOn s roles admins at (f .front)) z
+      → RestGiven (f .how) (onStep (restAt s roles admins at) (λ end r. judge s end (f .front) r)) z
   rest-joined es f z ez =
       let y : z ≡ judged s f ta tr tp tq tm (places at b c d e g) = ez ∙ ap (judged s f ta tr tp tq tm) es in
       past-front s g (f .how) (restEnd ta tr tp tq tm) (f .front .orders) (tm .ranges) _ z (ap (λ (x : FileRead). x .how) y)
@@ -217,14 +217,14 @@ pub ranges-fit : (s : List ℕ) (roles admins at : ℕ) {tm : RangesRead} → tm
 ranges-fit s roles admins at q = rw q (step-fits s roles admins at (rangesAt s roles admins at) refl)
 
 -- ---- the whole file
-module _ (s : List ℕ) (G : Front → ℕ → Step File) (f : FrontRead) (z : FileRead) where
-  then-rest : (w : Step Front) → FrontGiven w f → RestGiven (f .how) (G (f .front) (pastBy s (f .how))) z → FileGiven (onStep w (λ at x. G x at)) z
+module _ (s : List ℕ) (f : FrontRead) (z : FileRead) where
+  then-rest : (w : Step Front) → FrontGiven w f → RestGiven (f .how) (restOn s (pastBy s (f .how)) (f .front)) z
+      → FileGiven (onStep w (λ at x. restOn s at x)) z
   unfolding FrontGiven RestGiven FileGiven
   then-rest (go e x) q l = rw (q .0, q .1) at l
   then-rest (stop c p) q l = rw q at l
 
-pub file-joined : (s : List ℕ) {i a : ℕ} (f : FrontRead) (z : FileRead) → i ≡ 0 → FrontGiven (frontAt s i) f → a ≡ pastBy s (f .how)
-    → RestGiven (f .how) (restOn s (f .front .orders .roles .used) (f .front .orders .admins .used) a (f .front)) z → FileGiven (fileAt s) z
-unfolding fileAt
-file-joined s f z ei ef ea ez =
-    then-rest s (λ x n. restOn s (x .orders .roles .used) (x .orders .admins .used) n x) f z (frontAt s 0) (rw ei at ef) (rw ea at ez)
+  pub file-joined : {i a : ℕ} → i ≡ 0 → FrontGiven (frontAt s i) f → a ≡ pastBy s (f .how) → RestGiven (f .how) (restOn s a (f .front)) z
+      → FileGiven (fileAt s) z
+  unfolding fileAt
+  file-joined ei ef ea ez = then-rest (frontAt s 0) (rw ei at ef) (rw ea at ez)

@@ -77,8 +77,8 @@ FileGiven (go e x) r = (r .how ≡ Accepted) × (r .policy ≡ x .policy) × (r 
 FileGiven (stop c p) r = r .how ≡ Refused c p
 
 -- the tables from a place on, and then what is looked at once all is read
-abbrev pub restOn : List ℕ → ℕ → ℕ → ℕ → Front → Step File
-restOn s roles admins at f = onStep (restAt s roles admins at) (λ end r. judge s end f r)
+abbrev pub restOn : List ℕ → ℕ → Front → Step File
+restOn s at f = onStep (restAt s (f .orders .roles .used) (f .orders .admins .used) at) (λ end r. judge s end f r)
 
 -- what is answered from the tables on, where what stands before them ended so: if that was refused, its refusal is the file's
 unfoldable pub RestGiven : Ended → Step File → FileRead → Type 0

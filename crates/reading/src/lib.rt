@@ -204,12 +204,6 @@ fn judged(
     let end = places.end;
     let front = f.front;
     let orders = front.orders;
-    let people = front.people;
-    let permissions = front.permissions;
-    let assign = ta.table;
-    let revoke = tr.table;
-    let assignp = tp.table;
-    let revokep = tq.table;
     let modify = tm.ranges;
     let how = how_of(
         s,
@@ -218,6 +212,12 @@ fn judged(
         orders,
         modify,
     );
+    let people = front.people;
+    let permissions = front.permissions;
+    let assign = ta.table;
+    let revoke = tr.table;
+    let assignp = tp.table;
+    let revokep = tq.table;
     FileRead {
         how,
         policy: Policy {
@@ -237,9 +237,11 @@ fn judged(
 }
 
 // The five tables, and the whole with what stands before them: the reader goes from each to the next.
-fn read_rest<'a>(r: Reader<'a>, roles: u64, admins: u64, f: FrontRead) -> FileRead
-    ensures { λ z. ⌜ RestGiven (f .how) (restOn (now (r .entry .bytes)) roles admins (r .entry .at) (f .front)) z ⌝ }
+fn read_rest<'a>(r: Reader<'a>, f: FrontRead) -> FileRead
+    ensures { λ z. ⌜ RestGiven (f .how) (restOn (now (r .entry .bytes)) (r .entry .at) (f .front)) z ⌝ }
 {
+    let roles = f.front.orders.roles.used;
+    let admins = f.front.orders.admins.used;
     let ta = next_table(r, roles, admins, true);
     let b = past(r, ta.how);
     let tr = next_table(b, roles, admins, false);
@@ -261,7 +263,7 @@ pub fn read_file(s: &[u8]) -> FileRead
     let r = start(s);
     let f = read_front(r);
     let a = past(r, f.how);
-    read_rest(a, f.front.orders.roles.used, f.front.orders.admins.used, f)
+    read_rest(a, f)
 }
 
 fn nothing_read(how: How) -> Loaded

@@ -54,7 +54,8 @@ sub-t9 : tie.Need-sub-t9
 sub-t9 c =
     let at-enum-told = c .before .before .before in
     let at-read-file = at-enum-told .before .before in
-    let at-args = at-read-file .before .before .before .before in
+    let at-if1 = at-read-file .before .before in
+    let at-args = at-if1 .before .before in
     let w = file-got (fileAt _) _ (at-read-file .read-file .ensures) (at-enum-told .enum-told .given .1) .1 in
     omega (arith, c .before .start-of .ensures, c .end-of .ensures, file-inside (at-args .args .table) w .some)
 

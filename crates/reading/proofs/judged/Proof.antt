@@ -14,8 +14,10 @@ how-of-requires c κs = search needs
 
 returns : tie.Need-returns
 returns c =
-    let at-both = c .before in
-    rw (c .how-of .ensures, at-both .both .ensures, at-both .before .rest-end .ensures)
+    let at-assign = c .before .before .before in
+    let at-how-of = at-assign .before .before .before in
+    let at-both = at-how-of .before in
+    rw (at-how-of .how-of .ensures, at-both .both .ensures, at-both .before .rest-end .ensures)
 
 pub judged-spec : {M : Type 1} → statement M
 judged-spec = tie.close (tie.spec rest-end-requires both-requires how-of-requires returns)
