@@ -33,11 +33,11 @@ use Rattle.listing.specs.Listing.{entryCount, listed, filled, listedOutcome, li
 use Rattle.listing.specs.Listing as listing
 use Rattle.listing.proofs.Promised.{enough}
 use Rattle.answers.specs.Answers.{Fit, fields, apart, refusal, ofFile, ofReply, ofPart}
-use Rattle.answers.specs.Carried.{Ready, carriedOut, carriedBytes}
+use Rattle.answers.specs.Carried.{carriedOut, carriedBytes}
 use Rattle.answers.proofs.Laws.{fits, answered}
 use Rattle.entries.specs.Entries.{CheckOf, RequestOf, ListOf, QuestionOf, TableOf, requestFields}
 use Rattle.entries.specs.Entries.{requestBytes, listingFields, listingBytes, questionFields}
-use Rattle.entries.proofs.Laws.{file-fits, ready, part-fits}
+use Rattle.entries.proofs.Laws.{Ready, file-fits, ready, part-fits}
 
 -- ---- the ways
 

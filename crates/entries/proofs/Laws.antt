@@ -1,5 +1,5 @@
 -- What each entry owes the functions it calls, and what it has once they are done. Assumes nothing.
-use Prim.Native.Nat.{ℕ, _*_}
+use Prim.Native.Nat.{ℕ, _*_, _<_}
 use mathlib.Core.Path.{_≡_, sym, ap, _∙_}
 use mathlib.Core.Logic.{⊎-elim}
 use mathlib.Core.Bool.{Bool, true, false}
@@ -9,17 +9,25 @@ use lib.Dec.{leb, ltb}
 use lib.ListN.{length}
 use Rattle.sets.specs.Tests.{pick}
 use Rattle.policy.specs.declared.Answer.{Answer}
+use Rattle.policy.specs.declared.Policy.{Policy}
+use Rattle.policy.specs.declared.Change.{Change}
 use Rattle.policy.specs.declared.Reply.{Reply}
 use Rattle.policy.specs.Good.{Good}
 use Rattle.policy.specs.Question.{question}
+use Rattle.policy.specs.Outcome.{refused, accepted}
+use Rattle.policy.specs.Change.{changed, decided}
+use Rattle.policy.proofs.Changes.{decided-refused, decided-accepted}
 use Rattle.requests.specs.declared.Request.{Request}
 use Rattle.requests.specs.Requests.{decide}
 use Rattle.requests.proofs.Decided.{every-request, outcome-given}
 use Rattle.requests.proofs.Table.{given-below}
 use Rattle.reading.specs.declared.How.{How}
 use Rattle.reading.specs.declared.How.the-variants.{Accepted, Refused}
+use Rattle.reading.specs.declared.FileRead.{FileRead}
 use Rattle.reading.specs.declared.Loaded.{Loaded}
-use Rattle.reading.specs.File.{readPolicy}
+use Rattle.reading.specs.File.{fileAt, readPolicy}
+use Rattle.reading.specs.Joined.{FileGiven, nothingRead}
+use Rattle.reading.proofs.Laws.{loaded-go, loaded-stop}
 use Rattle.reading.proofs.Theorems.{accepted-good, refused-within}
 use Rattle.parts.specs.declared.Part.{Part}
 use Rattle.parts.specs.declared.Part.the-variants as found
@@ -31,12 +39,27 @@ use Rattle.listing.specs.declared.Listed.the-variants.{Unknown, Short, Entries}
 use Rattle.listing.specs.Listing.{ListingOf, entryCount, listed, listedOutcome, listedCount}
 use Rattle.listing.proofs.Promised.{enough}
 use Rattle.answers.specs.Answers.{Fit, packed, refusal, ofFile, ofListed, ofReply, ofPart}
-use Rattle.answers.specs.Carried.{CarriedOut, Ready}
-use Rattle.answers.proofs.Laws.{fits}
+use Rattle.answers.specs.Carried.{CarriedOut}
+use Rattle.answers.proofs.Laws.{fits, refused-carried}
 use Rattle.entries.specs.Entries.{CheckOf, RequestOf, ListOf, QuestionOf, TableOf, requestFields}
 use Rattle.entries.specs.Entries.{requestBytes, listingFields, listingBytes, questionFields}
 
--- ---- a file that was read
+-- ---- a file that was read: what the reader gives is the policy that the file holds, or its refusal
+
+module _ (s : List ℕ) (f : FileRead) (e : FileGiven (fileAt s) f) where
+  pub opened : f .how ≡ Accepted → _≡_ {A = Loaded} (record { how = f .how; policy = f .policy }) (readPolicy s)
+  unfolding readPolicy
+  opened ok = loaded-go (fileAt s) f e ok
+
+  pub not-opened : {c p : ℕ} → f .how ≡ Refused c p → nothingRead (f .how) ≡ readPolicy s
+  unfolding readPolicy
+  not-opened bad = loaded-stop (fileAt s) f e bad
+
+-- what a decision on a good policy always is, so that the answer fits its bits
+pub record Ready (d : Answer) : Type 0 where
+  pub good : Good (d .policy)
+  pub outcome : d .outcome < 256
+  pub number : d .number < 256
 
 module _ (s : List ℕ) {l : Loaded} (e : l ≡ readPolicy s) where
   -- what is answered of a file fits its bits
@@ -90,11 +113,35 @@ module _ (s : List ℕ) {l : Loaded} (e : l ≡ readPolicy s) where
           number = omega (arith, every-request (l .policy) x .role);
         })
 
-    pub good-request : (x : Request) {d : Answer} {o a : List ℕ} {r : ℕ} → d ≡ decide (l .policy) x → CarriedOut d o r a → RequestOf s x o r a
+    good-request : (x : Request) {d : Answer} {o a : List ℕ} {r : ℕ} → d ≡ decide (l .policy) x → CarriedOut d o r a → RequestOf s x o r a
     unfolding requestFields requestBytes
     good-request x q done =
         let z = q ∙ ap (λ (m : Loaded). decide (m .policy) x) e in
         record { answer = done .answer ∙ rw (is-ok, z); bytes = done .bytes ∙ rw (is-ok, z) }
+
+    -- c is what the code decides of the request
+    module _ (x : Request) (c : Change) (d : decided (l .policy) (x .a) c ≡ decide (l .policy) x) where
+      -- refused: the outcome alone, and the buffer stays
+      module _ (n : c .outcome ≡ 0 → ⊥) where
+        is-refused : refused (l .policy) (c .outcome) ≡ decide (l .policy) x
+        is-refused = sym (decided-refused (l .policy) (x .a) c n) ∙ d
+
+        pub outcome-fits : c .outcome < 256
+        outcome-fits = ready x is-refused .outcome
+
+        pub refused-request : {o : List ℕ} {r : ℕ} → r ≡ packed (refusal (c .outcome) 0) → RequestOf s x o r o
+        refused-request {o} q = good-request x is-refused (refused-carried (refused (l .policy) (c .outcome)) o n q)
+
+      -- accepted: the policy after is good, and is written
+      module _ (z : c .outcome ≡ 0) {after : Policy} (k : after ≡ changed (l .policy) (x .a) c) where
+        is-accepted : accepted after (c .number) ≡ decide (l .policy) x
+        is-accepted = rw k (sym (decided-accepted (l .policy) (x .a) c z) ∙ d)
+
+        pub after-ready : Ready (accepted after (c .number))
+        after-ready = ready x is-accepted
+
+        pub accepted-request : {o a : List ℕ} {r : ℕ} → CarriedOut (accepted after (c .number)) o r a → RequestOf s x o r a
+        accepted-request done = good-request x is-accepted done
 
     pub listed-fits : (officer : ℕ) {o a : List ℕ} {n : Listed} → ListingOf (l .policy) officer o n a → Fit (ofListed n)
     unfolding listed listedOutcome listedCount

@@ -5,14 +5,17 @@ use answers::carry_out;
 use answers::of_file;
 use answers::of_listed;
 use answers::of_part;
+use answers::of_refusal;
 use answers::of_reply;
 use listing::list;
 use parts::find_part;
+use policy::changed;
 use policy::question;
 use reading::How;
+use reading::read_file;
 use reading::read_policy;
 use requests::Request;
-use requests::decide;
+use requests::change_of;
 
 // Is this a policy file?
 #[no_mangle]
@@ -36,7 +39,7 @@ pub extern "C" fn aestilumne_request(
 ) -> u64
     ensures { λ r. ⌜ RequestOf (now (policy .entry)) (ask officer kind a b) (now (out .entry)) r (now (out .exit)) ⌝ }
 {
-    let file = read_policy(policy);
+    let file = read_file(policy);
     let how = file.how;
     let How::Accepted = how else {
         return of_file(how);
@@ -47,7 +50,11 @@ pub extern "C" fn aestilumne_request(
         a,
         b,
     };
-    carry_out(decide(file.policy, request), out)
+    let c = change_of(file.policy, true, request);
+    if c.outcome != 0 {
+        return of_refusal(c.outcome);
+    }
+    carry_out(changed(file.policy, a, c), c.number, out)
 }
 
 // Lists the requests of kinds 5 to 8 that would be accepted from an officer.
@@ -55,7 +62,7 @@ pub extern "C" fn aestilumne_request(
 pub extern "C" fn aestilumne_listing(policy: &[u8], officer: u64, out: &mut [u8]) -> u64
     ensures { λ r. ⌜ ListOf (now (policy .entry)) officer (now (out .entry)) r (now (out .exit)) ⌝ }
 {
-    let file = read_policy(policy);
+    let file = read_file(policy);
     let how = file.how;
     let How::Accepted = how else {
         return of_file(how);
@@ -69,7 +76,7 @@ pub extern "C" fn aestilumne_listing(policy: &[u8], officer: u64, out: &mut [u8]
 pub extern "C" fn aestilumne_question(policy: &[u8], user: u64, permission: u64) -> u64
     ensures { λ r. ⌜ QuestionOf (now (policy .entry)) user permission r ⌝ }
 {
-    let file = read_policy(policy);
+    let file = read_file(policy);
     let how = file.how;
     let How::Accepted = how else {
         return of_file(how);

@@ -10,7 +10,7 @@ write-policy-requires c κs = search needs
 of-written-requires : tie.Need-of-written-requires
 of-written-requires c κs =
     let at-write = c .before .before in
-    let start = at-write .before .before in
+    let start = at-write .before .before .before in
     written-fits _ _ _ (at-write .write-policy .ensures) (start .pre .0) (start .pre .1)
 
 same-length : tie.Need-same-length
