@@ -1,5 +1,5 @@
 // The listing program: reads a policy on standard input and writes for each user in turn one line an entry. A refused file writes nothing.
-ghost use Rattle.policy.specs.Good.{Sizes};
+ghost use Rattle.policy.specs.Good.{Good};
 
 mod lines;
 
@@ -29,7 +29,7 @@ fn show_entries(user: u8, entries: &[u8]) {
 
 // The buffer is document 01's 37,056 bytes, which are always enough.
 fn show_user(p: Policy, user: u8)
-    requires { ⌜ Sizes p ⌝ }
+    requires { ⌜ Good p ⌝ }
 {
     let mut out = [0u8; 37056];
     let listed = list(p, user as u64, &mut out);
@@ -41,7 +41,7 @@ fn show_user(p: Policy, user: u8)
 }
 
 fn show_users(p: Policy)
-    requires { ⌜ Sizes p ⌝ }
+    requires { ⌜ Good p ⌝ }
 {
     let count = p.people.users.count;
     let mut user = 0;

@@ -20,7 +20,7 @@ returns c = search needs
 show-users-requires : tie.Need-show-users-requires
 show-users-requires c κs =
     let e = c .before .before .read-policy .ensures in
-    rw e (accepted-good _ (ap (λ (l : Loaded). l .how) (sym e) ∙ c .enum-told .given .1) .sizes)
+    rw e (accepted-good _ (ap (λ (l : Loaded). l .how) (sym e) ∙ c .enum-told .given .1))
 
 returns-2 : tie.Need-returns-2
 returns-2 c = search needs
