@@ -23,7 +23,7 @@ use Rattle.policy.specs.declared.Policy.{Policy}
 use Rattle.policy.specs.Good.{Good}
 use Rattle.hierarchy.specs.declared.Site.{Site}
 use Rattle.hierarchy.specs.declared.Ground.{Ground}
-use Rattle.hierarchy.specs.Ground.{SoundSite, Stands}
+use Rattle.hierarchy.specs.Ground.{SoundSite, Grounded}
 use Rattle.hierarchy.specs.Rules.{site, createIn, edgeIn, rowAllows, unknownRole, unknownPair, full, newRole, spoils, PairFits}
 
 -- what a row has, by kind
@@ -114,7 +114,7 @@ spoils-created s a b n o e q r h = ap (λ (m : ℕ). spoils s (create (s .roles)
 -- ---- what is known before a change
 
 -- what the check after a change asks for, where every range is known to be sound
-pub sound-before : (s : Site) (g : Ground) (after : Order) (upper : List ℕ) → s .modify .count ≤ 64 → Stands s g → Above (after .juniors) upper → g .sound ≡ true
+pub sound-before : (s : Site) (g : Ground) (after : Order) (upper : List ℕ) → s .modify .count ≤ 64 → Grounded s g → Above (after .juniors) upper → g .sound ≡ true
     → SoundBefore (s .modify .rows) (s .modify .count) (s .roles .used) (s .roles .juniors) (g .seniors) (after .juniors) upper
 sound-before s g after upper l st u e =
     record {
@@ -126,12 +126,12 @@ sound-before s g after upper l st u e =
     }
 
 -- the sites of a good policy are sound
-pub good-site : {s : Site} (p : Policy) (o : ℕ) → s ≡ site p o → Good p → SoundSite s
+pub site-sound : {s : Site} (p : Policy) (o : ℕ) → s ≡ site p o → Good p → SoundSite s
 unfolding site
-good-site p o e g = rw e (record { in-use = g .roles .in-use; rows = g .sound })
+site-sound p o e g = rw e (record { in-use = g .roles .in-use; rows = g .sound })
 
 -- the seniors after each effect, as the code finds them: t is the order before, turned
-module _ (s : Site) (g : Ground) (st : Stands s g) {t : Order} (e : t ≡ record { used = s .roles .used; juniors = g .seniors }) where
+module _ (s : Site) (g : Ground) (st : Grounded s g) {t : Order} (e : t ≡ record { used = s .roles .used; juniors = g .seniors }) where
   turned-above : Above (s .roles .juniors) (t .juniors)
   turned-above = rw e (st .above)
 

@@ -13,6 +13,6 @@ pub record SoundSite (s : Site) : Type 0 where
   pub in-use : InUse (s .roles .used) (over s)
   pub rows : SoundRows (s .roles .used) (over s) (s .modify .count) (s .modify .rows)
 
-pub record Stands (s : Site) (g : Ground) : Type 0 where
+pub record Grounded (s : Site) (g : Ground) : Type 0 where
   pub above : Above (s .roles .juniors) (g .seniors)
   pub sound : g .sound ≡ true → SoundSite s

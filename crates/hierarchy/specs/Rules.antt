@@ -94,8 +94,16 @@ unfoldable pub someIn : Members → ℕ → Bool
 someIn m a = any (m .count) (λ u. has (getD (m .roles) u 0) a)
 
 -- 7 or 8: what ties a role to the policy, so that it cannot go
-unfoldable pub tied : Policy → ℕ → Bool
-tied p a = named (p .tables) (p .modify) a or (someIn (p .people .users) a or someIn (p .permissions) a)
+unfoldable pub tied : Tables → Ranges → Members → Members → ℕ → Bool
+tied t m users permissions a = named t m a or (someIn users a or someIn permissions a)
+
+abbrev pub tiedIn : Policy → ℕ → Bool
+tiedIn p = tied (p .tables) (p .modify) (p .people .users) (p .permissions)
+
+-- what the test of it asks of its caller: no more rows and members than there is room for
+pub record Counted (t : Tables) (m : Ranges) (users permissions : Members) : Type 0 where
+  pub tables : (t .assign .count ≤ 64) × (t .revoke .count ≤ 64) × (t .assignp .count ≤ 64) × (t .revokep .count ≤ 64) × (m .count ≤ 64)
+  pub members : (users .count ≤ 256) × (permissions .count ≤ 256)
 
 -- what the tests of number 9 ask of their caller: at most 64 rows, and two roles below 64
 pub record PairFits (s : Site) (a b : ℕ) : Type 0 where

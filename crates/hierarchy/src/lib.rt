@@ -5,15 +5,15 @@ ghost use Prim.Native.Nat.{_≤_, _<_};
 ghost use Rattle.order.specs.Effects.{create as createOrder, insert as insertOrder, cutEdge};
 ghost use lib.Dec.{eqb};
 ghost use Rattle.sets.specs.Tests.{_or_};
-ghost use Rattle.sets.specs.Sets.{has, setOf};
+ghost use Rattle.sets.specs.Sets.{setOf};
 ghost use Rattle.order.specs.Order.{senior};
 ghost use Rattle.order.specs.Rows.{Above};
 ghost use Rattle.ranges.specs.Rows.{within};
 ghost use Rattle.policy.specs.Good.{Sizes, Good};
 ghost use Rattle.policy.specs.Change.{decided};
 ghost use Rattle.policy.specs.Outcome.{first};
-ghost use Rattle.hierarchy.specs.Ground.{SoundSite, Stands};
-ghost use Rattle.hierarchy.specs.Rules.{tied, site, createIn, rowAllows, mayModify, unknownRole, unknownPair, spoils, rowNames, tableNames, rangesName, named, someIn, PairFits, full, newRole, createRules, deleteRules, insertRules, cutRules, createRole, deleteRole, insertEdge, deleteEdge};
+ghost use Rattle.hierarchy.specs.Ground.{SoundSite, Grounded};
+ghost use Rattle.hierarchy.specs.Rules.{Counted, tied, tiedIn, site, createIn, rowAllows, mayModify, unknownRole, unknownPair, spoils, rowNames, tableNames, rangesName, named, someIn, PairFits, full, newRole, createRules, deleteRules, insertRules, cutRules, createRole, deleteRole, insertEdge, deleteEdge};
 use order::Order;
 use order::all_seniors;
 use order::create;
@@ -40,7 +40,6 @@ use ranges::in_range;
 use ranges::is_unsound;
 use ranges::is_unsound_after;
 use sets::contains;
-use sets::has;
 use sets::lowest_free;
 use sets::size;
 use sets::with;
@@ -161,7 +160,7 @@ pub struct Ground {
 
 pub fn ground_of(site: Site, sound: bool) -> Ground
     requires { ⌜ (sound ≡ true → SoundSite site) ⌝ }
-    ensures { λ r. ⌜ Stands site r ⌝ }
+    ensures { λ r. ⌜ Grounded site r ⌝ }
 {
     let order = site.roles;
     let juniors = order.juniors;
@@ -183,7 +182,7 @@ fn turned(site: Site, ground: Ground) -> Order
 
 // Number 9: would some range be unsound in the order after? Its seniors stand in the same order, turned.
 fn is_spoilt(site: Site, ground: Ground, after: Order, above: Order) -> bool
-    requires { ⌜ (site .modify .count ≤ 64) × Stands site ground × Above (after .juniors) (above .juniors) ⌝ }
+    requires { ⌜ (site .modify .count ≤ 64) × Grounded site ground × Above (after .juniors) (above .juniors) ⌝ }
     ensures { λ r. ⌜ r ≡ spoils site after ⌝ }
 {
     let modify = site.modify;
@@ -207,7 +206,7 @@ fn is_full(site: Site) -> bool
 
 // Number 9, by kind.
 fn create_spoils(site: Site, ground: Ground, a: usize, b: usize) -> bool
-    requires { ⌜ PairFits site a b × (newRole site < 64) × Stands site ground ⌝ }
+    requires { ⌜ PairFits site a b × (newRole site < 64) × Grounded site ground ⌝ }
     ensures { λ r. ⌜ r ≡ spoils site (createOrder (site .roles) (newRole site) a b) ⌝ }
 {
     let order = site.roles;
@@ -217,7 +216,7 @@ fn create_spoils(site: Site, ground: Ground, a: usize, b: usize) -> bool
 }
 
 fn insert_spoils(site: Site, ground: Ground, a: usize, b: usize) -> bool
-    requires { ⌜ PairFits site a b × Stands site ground ⌝ }
+    requires { ⌜ PairFits site a b × Grounded site ground ⌝ }
     ensures { λ r. ⌜ r ≡ spoils site (insertOrder (site .roles) a b) ⌝ }
 {
     let after = insert(site.roles, a, b);
@@ -225,7 +224,7 @@ fn insert_spoils(site: Site, ground: Ground, a: usize, b: usize) -> bool
 }
 
 fn cut_spoils(site: Site, ground: Ground, a: usize, b: usize) -> bool
-    requires { ⌜ PairFits site a b × Stands site ground ⌝ }
+    requires { ⌜ PairFits site a b × Grounded site ground ⌝ }
     ensures { λ r. ⌜ r ≡ spoils site (cutEdge (site .roles) a b) ⌝ }
 {
     let after = cut_edge(site.roles, a, b);
@@ -234,7 +233,7 @@ fn cut_spoils(site: Site, ground: Ground, a: usize, b: usize) -> bool
 
 // Kind 5: the first refusal that holds, or 0.
 pub fn create_outcome(site: Site, ground: Ground, a: u64, b: u64) -> u64
-    requires { ⌜ (site .modify .count ≤ 64) × Stands site ground ⌝ }
+    requires { ⌜ (site .modify .count ≤ 64) × Grounded site ground ⌝ }
     ensures { λ r. ⌜ r ≡ first (createRules site a b) ⌝ }
 {
     if is_unknown_pair(site, a, b) {
@@ -282,7 +281,7 @@ pub fn delete_outcome(site: Site, names: bool, members: bool, a: u64, b: u64) ->
 
 // Kind 7.
 pub fn insert_outcome(site: Site, ground: Ground, a: u64, b: u64) -> u64
-    requires { ⌜ (site .modify .count ≤ 64) × Stands site ground ⌝ }
+    requires { ⌜ (site .modify .count ≤ 64) × Grounded site ground ⌝ }
     ensures { λ r. ⌜ r ≡ first (insertRules site a b) ⌝ }
 {
     if is_unknown_pair(site, a, b) {
@@ -304,7 +303,7 @@ pub fn insert_outcome(site: Site, ground: Ground, a: u64, b: u64) -> u64
 
 // Kind 8.
 pub fn cut_outcome(site: Site, ground: Ground, a: u64, b: u64) -> u64
-    requires { ⌜ (site .modify .count ≤ 64) × Stands site ground ⌝ }
+    requires { ⌜ (site .modify .count ≤ 64) × Grounded site ground ⌝ }
     ensures { λ r. ⌜ r ≡ first (cutRules site a b) ⌝ }
 {
     if is_unknown_pair(site, a, b) {
@@ -417,26 +416,25 @@ pub fn some_in(members: Members, a: usize) -> bool
     false
 }
 
-pub fn is_occupied(p: Policy, a: usize) -> bool
-    requires { ⌜ Sizes p ⌝ }
-    ensures { λ r. ⌜ r ≡ (someIn (p .people .users) a or someIn (p .permissions) a) ⌝ }
+fn is_occupied(users: Members, permissions: Members, a: usize) -> bool
+    requires { ⌜ (users .count ≤ 256) × (permissions .count ≤ 256) ⌝ }
+    ensures { λ r. ⌜ r ≡ (someIn users a or someIn permissions a) ⌝ }
 {
-    let people = p.people;
-    if some_in(people.users, a) {
+    if some_in(users, a) {
         return true;
     }
-    some_in(p.permissions, a)
+    some_in(permissions, a)
 }
 
 // 7 or 8: does some row name a, or is someone in it?
-fn is_tied(p: Policy, a: usize) -> bool
-    requires { ⌜ Sizes p ⌝ }
-    ensures { λ r. ⌜ r ≡ tied p a ⌝ }
+fn is_tied(tables: Tables, modify: Ranges, users: Members, permissions: Members, a: usize) -> bool
+    requires { ⌜ Counted tables modify users permissions ⌝ }
+    ensures { λ r. ⌜ r ≡ tied tables modify users permissions a ⌝ }
 {
-    if is_named(p.tables, p.modify, a) {
+    if is_named(tables, modify, a) {
         return true;
     }
-    is_occupied(p, a)
+    is_occupied(users, permissions, a)
 }
 
 // Kind 5: create a role, parent a, child b. Where sound says so, p is known to be good.
@@ -463,7 +461,8 @@ pub fn delete_role(p: Policy, o: u64, a: u64, b: u64) -> Change
     let order = site.roles;
     let role = a as usize;
     let names = is_named(p.tables, p.modify, role);
-    let members = is_occupied(p, role);
+    let people = p.people;
+    let members = is_occupied(people.users, p.permissions, role);
     let outcome = delete_outcome(site, names, members, a, b);
     if outcome != 0 {
         return unchanged(order, outcome);
@@ -502,12 +501,17 @@ pub fn delete_edge(p: Policy, sound: bool, o: u64, a: u64, b: u64) -> Change
 // The roles that cannot be deleted: some row names them (7), or someone is in them (8).
 pub fn tied_roles(p: Policy) -> u64
     requires { ⌜ Sizes p ⌝ }
-    ensures { λ r. ⌜ r ≡ setOf 64 (tied p) ⌝ }
+    ensures { λ r. ⌜ r ≡ setOf 64 (tiedIn p) ⌝ }
 {
+    let tables = p.tables;
+    let modify = p.modify;
+    let people = p.people;
+    let users = people.users;
+    let permissions = p.permissions;
     let mut set: u64 = 0;
     let mut a = 0;
     while a < 64 {
-        if is_tied(p, a) {
+        if is_tied(tables, modify, users, permissions, a) {
             set = with(set, a);
         }
         a += 1;

@@ -20,9 +20,9 @@ use Rattle.policy.specs.Outcome.{first}
 use Rattle.policy.proofs.Outcomes.{first-here}
 use Rattle.hierarchy.specs.declared.Site.{Site}
 use Rattle.hierarchy.specs.declared.Ground.{Ground}
-use Rattle.hierarchy.specs.Ground.{Stands}
+use Rattle.hierarchy.specs.Ground.{Grounded}
 use Rattle.order.specs.Order.{senior, comparable, edge}
-use Rattle.hierarchy.specs.Rules.{site, over, named, someIn, tied, unknownRole, mayModify, deleteRules}
+use Rattle.hierarchy.specs.Rules.{site, over, named, someIn, tied, tiedIn, unknownRole, mayModify, deleteRules}
 use Rattle.hierarchy.proofs.Laws.{known-first, known-second}
 use Rattle.hierarchy.proofs.Accepted.{create-ok, insert-ok, cut-ok}
 use Rattle.requests.specs.Requests.{ask, rulesOf}
@@ -58,7 +58,7 @@ module _ (p : Policy) (o a b : ℕ) where
   unfolding rulesOf siteOutcome
   accepts-cut = by-rules 8
 
-tied-is : (p : Policy) (a : ℕ) → tied p a ≡ (named (p .tables) (p .modify) a or (someIn (p .people .users) a or someIn (p .permissions) a))
+tied-is : (p : Policy) (a : ℕ) → tiedIn p a ≡ (named (p .tables) (p .modify) a or (someIn (p .people .users) a or someIn (p .permissions) a))
 unfolding tied
 tied-is p a = refl
 
@@ -139,7 +139,7 @@ module _ (s : Site) (kind a : ℕ) where
   juniors-to-do m q = record { each = λ b e. rw q (junior-member s kind a b m e) }
 
   -- of those in use what is neither junior nor senior to a
-  pub others-to-do : kind ≡ 7 → (g : Ground) → Stands s g → (x y z : ℕ) → x ≡ getD (s .roles .juniors) a 0
+  pub others-to-do : kind ≡ 7 → (g : Ground) → Grounded s g → (x y z : ℕ) → x ≡ getD (s .roles .juniors) a 0
       → Exactly y (λ b. has (s .roles .used) b and neg (has x b)) → Exactly z (λ b. has y b and neg (has (getD (g .seniors) a 0) b)) → ToDo s kind a z
   unfolding senior comparable
   others-to-do k g st x y z q ey ez = record {
@@ -166,7 +166,7 @@ tied-refusals s false true a b = by-ends (neg (eqb b 0)) (unknownRole s a) (neg 
     by-ends false false false = refl
 tied-refusals s false false a b = refl
 
-pub site-rows : (p : Policy) (o j : ℕ) → j < 256 → siteSet (site p o) (setOf 64 (tied p)) j ≡ acceptedSet p o j
+pub site-rows : (p : Policy) (o j : ℕ) → j < 256 → siteSet (site p o) (setOf 64 (tiedIn p)) j ≡ acceptedSet p o j
 unfolding siteSet acceptedSet
 site-rows p o j l =
     by-test (eqb (5 + j / 64) 6)
@@ -178,8 +178,8 @@ site-rows p o j l =
     (λ t. rw t
     (setOf-same 64 _ _ (λ b h. sym (accepts-site p o (j % 64) b (5 + j / 64) (omega arith) (omega arith) (eqb-false (5 + j / 64) 6 t)))))
   where
-    tied-at : (a : ℕ) → a < 64 → has (setOf 64 (tied p)) a ≡ (named (p .tables) (p .modify) a or (someIn (p .people .users) a or someIn (p .permissions) a))
-    tied-at a k = has-setOf 64 (tied p) a k ∙ tied-is p a
+    tied-at : (a : ℕ) → a < 64 → has (setOf 64 (tiedIn p)) a ≡ (named (p .tables) (p .modify) a or (someIn (p .people .users) a or someIn (p .permissions) a))
+    tied-at a k = has-setOf 64 (tiedIn p) a k ∙ tied-is p a
 
 -- ---- the count
 -- a place of row j

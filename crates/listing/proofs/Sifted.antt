@@ -11,12 +11,12 @@ use Rattle.sets.specs.Sets.{has, setOf, Exactly}
 use Rattle.sets.proofs.Tests.{clash, not-so, same-test, or-l, or-r, or-cases}
 use Rattle.sets.proofs.Digits.{has-empty, has-beyond, none-beyond}
 use Rattle.sets.proofs.Builders.{exactly-is}
-use Rattle.sets.proofs.Members.{Left, left-begin, left-turn, left-end}
+use Rattle.sets.proofs.Members.{Remaining, left-begin, left-turn, left-end}
 
 -- those gathered pass, and each that passes and is not left is gathered
 pub record Sifted (f : ℕ → Bool) (all found rest : ℕ) : Type 0 where
   pub sound : (n : ℕ) → has found n ≡ true → f n ≡ true
-  pub left : Left (λ n. f n ≡ true → has found n ≡ true) all rest
+  pub left : Remaining (λ n. f n ≡ true → has found n ≡ true) all rest
 
 pub sift-begin : (f : ℕ → Bool) (all : ℕ) → Sifted f all 0 all
 sift-begin f all = record { sound = λ n t. clash t (has-empty n); left = left-begin _ all }

@@ -9,8 +9,8 @@ ghost use Rattle.sets.specs.Sets.{has, count, setOf};
 ghost use Rattle.policy.specs.Good.{Good};
 ghost use Rattle.policy.specs.Outcome.{first};
 ghost use Rattle.hierarchy.specs.Rules.{deleteRules};
-ghost use Rattle.hierarchy.specs.Ground.{Stands};
-ghost use Rattle.listing.specs.Listing.{acceptedSet, AcceptedRows, inRows, placeCount, entry, entriesOf, ListingOf};
+ghost use Rattle.hierarchy.specs.Ground.{Grounded};
+ghost use Rattle.listing.specs.Listing.{AcceptedRows, inRows, placeCount, entry, entriesOf, ListingOf};
 ghost use Rattle.listing.specs.Sites.{siteOutcome, siteSet, ToDo};
 use hierarchy::Ground;
 use hierarchy::Site;
@@ -38,7 +38,7 @@ pub enum Listed {
 
 // The outcome of kind 5, 7 or 8: authority and "nothing to do" are tested before the costly check of all ranges.
 fn site_outcome(site: Site, ground: Ground, kind: u64, a: u64, b: u64) -> u64
-    requires { ⌜ (site .modify .count ≤ 64) × Stands site ground ⌝ }
+    requires { ⌜ (site .modify .count ≤ 64) × Grounded site ground ⌝ }
     ensures { λ r. ⌜ r ≡ siteOutcome site kind a b ⌝ }
 {
     if kind == 5 {
@@ -52,7 +52,7 @@ fn site_outcome(site: Site, ground: Ground, kind: u64, a: u64, b: u64) -> u64
 
 // A set that has each b with which a request of kind 5, 7 or 8 has something to do, so that few are tried in vain.
 fn to_do(site: Site, ground: Ground, kind: u64, a: usize) -> u64
-    requires { ⌜ (a < 64) × Stands site ground ⌝ }
+    requires { ⌜ (a < 64) × Grounded site ground ⌝ }
     ensures { λ r. ⌜ ToDo site kind a r ⌝ }
 {
     let order = site.roles;
@@ -68,7 +68,7 @@ fn to_do(site: Site, ground: Ground, kind: u64, a: usize) -> u64
 
 // The set of the b with which a request of kind 5, 7 or 8 would be accepted.
 fn accepted_row(site: Site, ground: Ground, kind: u64, a: usize) -> u64
-    requires { ⌜ (a < 64) × (site .modify .count ≤ 64) × Stands site ground ⌝ }
+    requires { ⌜ (a < 64) × (site .modify .count ≤ 64) × Grounded site ground ⌝ }
     ensures { λ r. ⌜ r ≡ setOf 64 (λ b. eqb (siteOutcome site kind a b) 0) ⌝ }
 {
     let mut row: u64 = 0;
@@ -96,7 +96,7 @@ fn delete_row(site: Site, tied: u64, a: usize) -> u64
 
 // The set of the b with which the request of kind and a at place j of 4 times 64 would be accepted.
 fn row_at(site: Site, ground: Ground, tied: u64, j: usize) -> u64
-    requires { ⌜ (j < 256) × (site .modify .count ≤ 64) × Stands site ground ⌝ }
+    requires { ⌜ (j < 256) × (site .modify .count ≤ 64) × Grounded site ground ⌝ }
     ensures { λ r. ⌜ r ≡ siteSet site tied j ⌝ }
 {
     let kind = 5 + j / 64;

@@ -284,7 +284,11 @@ pub fn assign_permission(p: Policy, o: u64, a: u64, b: u64) -> Change
     ensures { λ r. ⌜ decided p a r ≡ assignPermission p o a b ⌝ }
 {
     let tables = p.tables;
-    assigned(permission_view(p, tables.assignp, o, a), b, Touched::Permission)
+    assigned(
+        permission_view(p, tables.assignp, o, a),
+        b,
+        Touched::Permission,
+    )
 }
 
 // Kind 4: take permission a out of role b.
@@ -293,5 +297,9 @@ pub fn revoke_permission(p: Policy, o: u64, a: u64, b: u64) -> Change
     ensures { λ r. ⌜ decided p a r ≡ revokePermission p o a b ⌝ }
 {
     let tables = p.tables;
-    revoked(permission_view(p, tables.revokep, o, a), b, Touched::Permission)
+    revoked(
+        permission_view(p, tables.revokep, o, a),
+        b,
+        Touched::Permission,
+    )
 }

@@ -18,32 +18,32 @@ use Rattle.sets.proofs.Tests.{or-l, or-r, or-cases, or-given, or-false, or-fail
 use Rattle.sets.proofs.Digits.{has-empty, has-below, has-beyond, none-beyond, lt-or-le}
 use Rattle.sets.proofs.Quantifiers.{any-of, any-at, any-fails}
 use Rattle.sets.proofs.Builders.{exactly-set}
-use Rattle.sets.proofs.Members.{Left, left-begin, left-turn, left-end, lowest-in, lowest-below}
+use Rattle.sets.proofs.Members.{Remaining, left-begin, left-turn, left-end, lowest-in, lowest-below}
 use Rattle.order.specs.Order.{senior, atLeast, reaches, reached}
 use Rattle.order.specs.Rows.{Raised, Above}
 use Rattle.order.proofs.Lists.{Rows, senior-past, reaches-past}
 
 -- what is left is no more than there was
-pub left-lt : {P : ℕ → Type 0} (w all rest : ℕ) → Left P all rest → all < 2 ^ w → rest < 2 ^ w
+pub left-lt : {P : ℕ → Type 0} (w all rest : ℕ) → Remaining P all rest → all < 2 ^ w → rest < 2 ^ w
 left-lt w all rest h l =
     none-beyond w rest (λ n m. not-so _ (λ t. clash (h .within n t) (has-beyond w all n l m)))
 
 -- the lowest that is left is a member, and below the width
-pub left-lowest : {P : ℕ → Type 0} (w all rest : ℕ) → Left P all rest → all < 2 ^ w → 0 < rest → lowest w rest < w
+pub left-lowest : {P : ℕ → Type 0} (w all rest : ℕ) → Remaining P all rest → all < 2 ^ w → 0 < rest → lowest w rest < w
 left-lowest w all rest h l n = lowest-below w rest n (left-lt w all rest h l)
 
-pub left-member : {P : ℕ → Type 0} (w all rest : ℕ) → Left P all rest → all < 2 ^ w → 0 < rest → has rest (lowest w rest) ≡ true
+pub left-member : {P : ℕ → Type 0} (w all rest : ℕ) → Remaining P all rest → all < 2 ^ w → 0 < rest → has rest (lowest w rest) ≡ true
 left-member w all rest h l n = lowest-in w rest n (left-lt w all rest h l)
 
 -- ---- `lacks_one`: the row has all juniors of each member that was taken
 -- a member is found whose juniors the row does not all have
-pub lacks-found : (js : List ℕ) (row rest b : ℕ) → Left (λ x. subset 64 (getD js x 0) row ≡ true) row rest → row < 2 ^ 64 → has rest b ≡ true
+pub lacks-found : (js : List ℕ) (row rest b : ℕ) → Remaining (λ x. subset 64 (getD js x 0) row ≡ true) row rest → row < 2 ^ 64 → has rest b ≡ true
     → subset 64 (getD js b 0) row ≡ false → true ≡ any 64 (λ x. has row x and neg (subset 64 (getD js x 0) row))
 lacks-found js row rest b h l m e =
     let t = h .within b m in
     sym (any-of 64 _ b (has-below 64 row b l t) (and-i _ _ t (neg-i _ e)))
 
-pub lacks-none : (js : List ℕ) (row rest : ℕ) → Left (λ x. subset 64 (getD js x 0) row ≡ true) row rest → rest ≡ 0
+pub lacks-none : (js : List ℕ) (row rest : ℕ) → Remaining (λ x. subset 64 (getD js x 0) row ≡ true) row rest → rest ≡ 0
     → false ≡ any 64 (λ x. has row x and neg (subset 64 (getD js x 0) row))
 lacks-none js row rest h e =
     sym (any-fails 64 _ (λ b l. by-test (has row b)
@@ -51,7 +51,7 @@ lacks-none js row rest h e =
 
 -- ---- `reached`: down has the set, the juniors of each member that was taken, and nothing else that the set does not reach
 pub record Reaching (js : List ℕ) (set down rest : ℕ) : Type 0 where
-  pub left : Left (λ a. (b : ℕ) → senior js a b ≡ true → has down b ≡ true) set rest
+  pub left : Remaining (λ a. (b : ℕ) → senior js a b ≡ true → has down b ≡ true) set rest
   pub own : (b : ℕ) → has set b ≡ true → has down b ≡ true
   pub sound : (b : ℕ) → has down b ≡ true → reaches (senior js) set b ≡ true
 
@@ -89,7 +89,7 @@ reach-end js rows set down rest h e =
 -- ---- `raise`: a has joined the seniors of each member that was taken, and the others have the seniors that they had
 pub record Raising (before : List ℕ) (a row : ℕ) (after : List ℕ) (rest : ℕ) : Type 0 where
   pub long : length after ≡ 64
-  pub left : Left (λ b. Exactly (getD after b 0) (λ x. eqb x a or has (getD before b 0) x)) row rest
+  pub left : Remaining (λ b. Exactly (getD after b 0) (λ x. eqb x a or has (getD before b 0) x)) row rest
   pub ahead : (b : ℕ) → has rest b ≡ true → getD after b 0 ≡ getD before b 0
   pub apart : (b : ℕ) → has row b ≡ false → getD after b 0 ≡ getD before b 0
 

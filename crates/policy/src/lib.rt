@@ -273,16 +273,17 @@ fn permissions_after(permissions: Members, a: u64, touched: Touched, roles: u64)
 pub fn changed(p: Policy, a: u64, c: Change) -> Policy
     ensures { λ r. ⌜ r ≡ changed p a c ⌝ }
 {
-    let touched = c.touched;
     let mut orders = p.orders;
-    let order = c.order;
-    orders.roles = order;
     let mut people = p.people;
-    let users = users_after(people.users, a, touched, c.roles);
-    people.users = users;
-    let permissions = permissions_after(p.permissions, a, touched, c.roles);
+    let before = p.permissions;
     let tables = p.tables;
     let modify = p.modify;
+    let touched = c.touched;
+    let order = c.order;
+    orders.roles = order;
+    let users = users_after(people.users, a, touched, c.roles);
+    people.users = users;
+    let permissions = permissions_after(before, a, touched, c.roles);
     Policy {
         orders,
         people,

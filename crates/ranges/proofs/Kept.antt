@@ -20,12 +20,12 @@ use Rattle.ranges.specs.declared.ModifyRow.{ModifyRow}
 use Rattle.ranges.specs.declared.Look.the-variants.{Either}
 use Rattle.ranges.specs.Ranges.{inside, encapsulated, parted, partedByEnds, Encapsulated}
 use Rattle.ranges.specs.Rows.{within, lowNotJunior, notEncapsulated, rowFails}
-use Rattle.ranges.specs.After.{SameOutside, Kept}
+use Rattle.ranges.specs.After.{SameOutside, KeptRow}
 use Rattle.ranges.proofs.Laws.{encapsulated-is}
 
 module _ (used present : ℕ) (f g : Relation) (row : ModifyRow) (range outside differs : ℕ)
     (in-use : InUse used f) (was-junior : f (row .high .0) (row .low .0) ≡ true) (capsule : Encapsulated used f (row .low .0) (row .high .0))
-    (same : SameOutside used f g differs) (kept : Kept used f g row range outside differs)
+    (same : SameOutside used f g differs) (kept : KeptRow used f g row range outside differs)
     (range-is : Exactly range (inside g (row .low .0) (row .high .0))) (outside-is : Exactly outside (λ s. has present s and neg (has range s))) where
   abbrev low : ℕ
   low = row .low .0

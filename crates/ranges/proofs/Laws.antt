@@ -11,7 +11,7 @@ use Rattle.sets.specs.Tests.{_and_, _or_, neg, _implies_, _iff_}
 use Rattle.sets.specs.Sets.{has, all, lowest, Exactly, agreeing}
 use Rattle.sets.proofs.Tests.{and-fails-l, and-fails-r, and-given, or-given, implies-i, implies-given, implies-and, eqb-sym}
 use Rattle.sets.proofs.Digits.{has-empty}
-use Rattle.sets.proofs.Members.{Left, left-end, lowest-below, lowest-in}
+use Rattle.sets.proofs.Members.{Remaining, left-end, lowest-below, lowest-in}
 use Rattle.sets.proofs.Quantifiers.{all-of, all-fails, all-same, all-and, any-same}
 use Rattle.order.specs.Order.{Relation, senior, atLeast}
 use Rattle.order.specs.Rows.{Above}
@@ -64,7 +64,7 @@ encapsulated-is used f low high range outside range-is outside-is =
 module _ (f : ℕ → Bool) (set : ℕ) where
   -- those that are no longer left have passed
   abbrev pub Passed : ℕ → Type 0
-  Passed rest = Left (λ n. f n ≡ true) set rest
+  Passed rest = Remaining (λ n. f n ≡ true) set rest
 
   -- the lowest that is left, by the number that the code has for it, is a member
   next-member : (rest m : ℕ) → Passed rest → m ≡ lowest 64 rest → 0 < rest → rest < 2 ^ 64 → has set m ≡ true

@@ -47,7 +47,7 @@ pub record EndsStay (f g : Relation) (row : ModifyRow) : Type 0 where
   pub under : (s : ℕ) → g (row .low .0) s ≡ f (row .low .0) s
 
 -- the change leaves all that says that a row's range is encapsulated, but for roles that were not in use before
-pub record Kept (used : ℕ) (f g : Relation) (row : ModifyRow) (range outside differs : ℕ) : Type 0 where
+pub record KeptRow (used : ℕ) (f g : Relation) (row : ModifyRow) (range outside differs : ℕ) : Type 0 where
   pub ends : EndsStay f g row
   pub members : (r : ℕ) → has used r ≡ true → has range r ≡ within f row r
   pub clear : (s : ℕ) → has outside s ≡ true → has differs s ≡ false

@@ -12,7 +12,7 @@ ghost use Rattle.ranges.specs.declared.Look.the-variants.{Either};
 ghost use Rattle.ranges.specs.Ranges.{inside, inRange, encapsulated, parted, partedByEnds, overlapInPart};
 ghost use Rattle.ranges.specs.Rows.{rowAt, within, lowNotJunior, notEncapsulated, rowFails, upTo};
 ghost use Rattle.ranges.specs.Rows.{firstFailing, overlap, overlapFrom, firstOverlap, unsound};
-ghost use Rattle.ranges.specs.After.{SameAt, SameOutside, SoundBefore, RowBefore, EndsStay, Kept, RangesStay, RangeSets, cutFrom, someCut};
+ghost use Rattle.ranges.specs.After.{SameAt, SameOutside, SoundBefore, RowBefore, EndsStay, KeptRow, RangesStay, RangeSets, cutFrom, someCut};
 use order::Order;
 use order::all_seniors;
 use order::is_senior;
@@ -390,7 +390,7 @@ fn is_kept(
     differs: u64,
 ) -> bool
     requires { ⌜ Above (now juniors) (now seniors) × Above (now lower) (now upper) ⌝ }
-    ensures { λ b. ⌜ (b ≡ true → Kept used (senior (now (juniors .entry))) (senior (now (lower .entry))) row range outside differs) ⌝ }
+    ensures { λ b. ⌜ (b ≡ true → KeptRow used (senior (now (juniors .entry))) (senior (now (lower .entry))) row range outside differs) ⌝ }
 {
     if !ends_stay(row, juniors, seniors, lower, upper) {
         return false;

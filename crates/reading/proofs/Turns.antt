@@ -39,7 +39,7 @@ use Rattle.reading.specs.declared.How.the-variants as how
 use Rattle.reading.specs.declared.Places.{Places}
 use Rattle.reading.specs.declared.FileRead.{FileRead}
 use Rattle.reading.specs.File.{oneAt, front, frontAt, places, Rest, rest, restAt, File, file, judge, fileAt}
-use Rattle.reading.specs.Joined.{isOne, both, joinFront, FrontGiven, restEnd, howOf, judged, FileGiven, restOn, RestGiven}
+use Rattle.reading.specs.Joined.{isOne, inTurn, joinFront, FrontGiven, restEnd, howOf, judged, FileGiven, restOn, RestGiven}
 use Rattle.reading.proofs.Laws.{all-roles, all-admins}
 use Rattle.reading.proofs.Right.{rest-steps}
 
@@ -52,15 +52,15 @@ Gives (stop c p) h b = h ≡ Stopped c p
 
 module _ {B : Type 0} (s : List ℕ) where
   after-number : (n : Num) (F : ℕ → Step B) (h : Ended) (b : B) → Gives (F (pastBy s (endedBy n))) h b
-      → Gives (onNum n (λ x. F)) (both (endedBy n) h) b
-  unfolding both Gives
+      → Gives (onNum n (λ x. F)) (inTurn (endedBy n) h) b
+  unfolding inTurn Gives
   after-number (num.Value x e) F h b q = q
   after-number (num.Refused c p) F h b q = refl
 
   module _ {A Q : Type 0} {read : Step A → Q} {how : Q → Ended} {held : Q → A} (k : Answers read how held) where
     after : (w : Step A) {r : Q} → r ≡ read w → (F : ℕ → A → Step B) (h : Ended) (b : B) → Gives (F (pastBy s (how r)) (held r)) h b
-        → Gives (onStep w F) (both (how r) h) b
-    unfolding both Gives
+        → Gives (onStep w F) (inTurn (how r) h) b
+    unfolding inTurn Gives
     after (go e a) {r} q F h b x =
         let p : how r ≡ At e = ap how q ∙ k .how-go e a in
         let d : held r ≡ a = ap held q ∙ k .held-go e a in
@@ -167,9 +167,9 @@ module _ (s : List ℕ) (roles admins at : ℕ) (f : Front) (z : FileRead) where
   rest-judged (stop c p) v h x q a d e = rw q at a
 
 -- where the sections before the tables are refused, so is the whole
-past-front : (s : List ℕ) (end : ℕ) (k h : Ended) (o : Orders) (m : Ranges) (w : Step File) (z : FileRead) → z .how ≡ howOf s end (both k h) o m
+past-front : (s : List ℕ) (end : ℕ) (k h : Ended) (o : Orders) (m : Ranges) (w : Step File) (z : FileRead) → z .how ≡ howOf s end (inTurn k h) o m
     → (z .how ≡ howOf s end h o m → FileGiven w z) → RestGiven k w z
-unfolding both howOf RestGiven
+unfolding inTurn howOf RestGiven
 past-front s end (At e) h o m w z q l = l q
 past-front s end (Stopped c p) h o m w z q l = q
 

@@ -34,16 +34,16 @@ abbrev pub isOne : ℕ → Num → Num
 isOne at n = tested (λ x. eqb x 1) at n
 
 -- how two sections end, one after the other: as the second does, unless the first is refused
-unfoldable pub both : Ended → Ended → Ended
-both (At e) h = h
-both (Stopped c p) h = Stopped c p
+unfoldable pub inTurn : Ended → Ended → Ended
+inTurn (At e) h = h
+inTurn (Stopped c p) h = Stopped c p
 
 -- ---- before the tables
 
 abbrev pub joinFront : Ended → OrderRead → OrderRead → PeopleRead → MembersRead → FrontRead
 joinFront one o p u m =
     record {
-      how = both one (both (o .how) (both (p .how) (both (u .how) (m .how))));
+      how = inTurn one (inTurn (o .how) (inTurn (p .how) (inTurn (u .how) (m .how))));
       front = front (o .order) (p .order) (u .people) (m .members);
     }
 
@@ -55,7 +55,7 @@ FrontGiven (stop c p) f = f .how ≡ Stopped c p
 -- ---- the tables, and the whole
 
 abbrev pub restEnd : TableRead → TableRead → TableRead → TableRead → RangesRead → Ended
-restEnd a b c d m = both (a .how) (both (b .how) (both (c .how) (both (d .how) (m .how))))
+restEnd a b c d m = inTurn (a .how) (inTurn (b .how) (inTurn (c .how) (inTurn (d .how) (m .how))))
 
 -- how the reading ends that went up to `end`: the first refusal of a section; else "27 bytes left over (place: the first)"; else 23 to 26
 unfoldable pub howOf : List ℕ → ℕ → Ended → Orders → Ranges → How
@@ -66,7 +66,7 @@ howOf s end (Stopped c p) orders modify = Refused c p
 abbrev pub judged : List ℕ → FrontRead → TableRead → TableRead → TableRead → TableRead → RangesRead → Places → FileRead
 judged s f a b c d m places =
     record {
-      how = howOf s (places .end) (both (f .how) (restEnd a b c d m)) (f .front .orders) (m .ranges);
+      how = howOf s (places .end) (inTurn (f .how) (restEnd a b c d m)) (f .front .orders) (m .ranges);
       policy = file (f .front) (rest (a .table) (b .table) (c .table) (d .table) (m .ranges) places) .policy;
       places = places;
     }

@@ -3,7 +3,7 @@ ghost use mathlib.Core.Path.{_≡_};
 ghost use Prim.Native.Nat.{_≤_};
 ghost use Rattle.sections.specs.Numbers.{endedBy};
 ghost use Rattle.reading.specs.File.{front, frontAt, places, fileAt, readPolicy};
-ghost use Rattle.reading.specs.Joined.{isOne, both, joinFront, restEnd, howOf, judged};
+ghost use Rattle.reading.specs.Joined.{isOne, inTurn, joinFront, restEnd, howOf, judged};
 ghost use Rattle.reading.specs.Joined.{FrontGiven, restOn, RestGiven, FileGiven, nothingRead};
 use faults::fault;
 use number::Num;
@@ -92,8 +92,8 @@ fn first_end(n: Num, at: usize) -> Ended
 }
 
 // How two sections end, one after the other: as the second does, unless the first is refused.
-fn both(first: Ended, then: Ended) -> Ended
-    ensures { λ r. ⌜ r ≡ both first then ⌝ }
+fn in_turn(first: Ended, then: Ended) -> Ended
+    ensures { λ r. ⌜ r ≡ inTurn first then ⌝ }
 {
     match first {
         Ended::At(_) => then,
@@ -119,7 +119,7 @@ fn join_front(one: Ended, o: OrderRead, p: OrderRead, u: PeopleRead, m: MembersR
     let hp = p.how;
     let hu = u.how;
     let hm = m.how;
-    let how = both(one, both(ho, both(hp, both(hu, hm))));
+    let how = in_turn(one, in_turn(ho, in_turn(hp, in_turn(hu, hm))));
     FrontRead {
         how,
         front: make_front(o.order, p.order, u.people, m.members),
@@ -165,7 +165,7 @@ fn rest_end(ta: TableRead, tr: TableRead, tp: TableRead, tq: TableRead, tm: Rang
     let hp = tp.how;
     let hq = tq.how;
     let hm = tm.how;
-    both(ha, both(hr, both(hp, both(hq, hm))))
+    in_turn(ha, in_turn(hr, in_turn(hp, in_turn(hq, hm))))
 }
 
 // How the reading ends: the first refusal of a section, else 27, else 23 to 26, else it is accepted.
@@ -208,7 +208,7 @@ fn judged(
     let how = how_of(
         s,
         end,
-        both(before, rest_end(ta, tr, tp, tq, tm)),
+        in_turn(before, rest_end(ta, tr, tp, tq, tm)),
         orders,
         modify,
     );

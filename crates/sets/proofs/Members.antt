@@ -4,7 +4,7 @@ use mathlib.Core.Path.{_≡_, refl, sym, ap, ap₂, _∙_}
 use mathlib.Core.Logic.{⊎-elim}
 use mathlib.Core.Bool.{Bool, true, false}
 use Prim.Native.Nat.{ℕ, zero, suc, _-_, _/_, _%_, _^_, _<_}
-use native.Mathlib.Nat.{mod-lt, zero-lt-suc, not-suc-le-zero, pow-suc}
+use native.Mathlib.Nat.{mod-lt, zero-lt-suc, pow-suc}
 use native.Mathlib.Omega.{arith}
 use lib.Bits.{bitAnd}
 use lib.Dec.{eqb}
@@ -68,16 +68,16 @@ lowest-in w s l h =
     least-at w (has s) (⊎-elim (λ k. k) (λ k. absurd (omega (arith, none-is-empty w s h (λ n m. least-below w (has s) n (omega arith))))) (lt-or-le (least w (has s)) w))
 
 -- ---- the loop: what is left are members, and P holds of each member that is not left
-pub record Left (P : ℕ → Type 0) (all rest : ℕ) : Type 0 where
+pub record Remaining (P : ℕ → Type 0) (all rest : ℕ) : Type 0 where
   pub within : (n : ℕ) → has rest n ≡ true → has all n ≡ true
   pub done : (n : ℕ) → has all n ≡ true → has rest n ≡ false → P n
 
-pub left-begin : (P : ℕ → Type 0) (all : ℕ) → Left P all all
+pub left-begin : (P : ℕ → Type 0) (all : ℕ) → Remaining P all all
 left-begin P all = record { within = λ n e. e; done = λ n e q. clash e q }
 
 -- one member is taken; what holds of those before it holds after it too
-pub left-turn : (P Q : ℕ → Type 0) (all rest next m : ℕ) → Left P all rest → Exactly next (λ n. has rest n and neg (eqb n m))
-    → ((n : ℕ) → P n → Q n) → Q m → Left Q all next
+pub left-turn : (P Q : ℕ → Type 0) (all rest next m : ℕ) → Remaining P all rest → Exactly next (λ n. has rest n and neg (eqb n m))
+    → ((n : ℕ) → P n → Q n) → Q m → Remaining Q all next
 left-turn P Q all rest next m h e keep q = record {
   within = λ n t. h .within n (and-l _ _ (sym (e n) ∙ t));
   done = λ n t u.
@@ -90,5 +90,5 @@ left-turn P Q all rest next m h e keep q = record {
     subst-at n p = rw p q
 
 -- where none is left, P holds of each member
-pub left-end : (P : ℕ → Type 0) (all rest : ℕ) → Left P all rest → rest ≡ 0 → (n : ℕ) → has all n ≡ true → P n
+pub left-end : (P : ℕ → Type 0) (all rest : ℕ) → Remaining P all rest → rest ≡ 0 → (n : ℕ) → has all n ≡ true → P n
 left-end P all rest h e n t = h .done n t (ap (λ (x : ℕ). has x n) e ∙ has-empty n)

@@ -1,7 +1,7 @@
 -- The laws of `all`, `any`, `least` and `count`, each over the width.
 -- Assumes nothing.
 use mathlib.Core.Path.{_≡_, refl, sym, ap, ap₂, _∙_, subst}
-use mathlib.Core.Logic.{_⊎_, ⊎-elim}
+use mathlib.Core.Logic.{⊎-elim}
 use mathlib.Core.Bool.{Bool, true, false}
 use Prim.Native.Nat.{ℕ, zero, suc, _+_, _-_, _/_, _%_, _^_, _≤_, _<_, suc-le-suc, zero-le}
 use native.Mathlib.Nat.{add-zero, add-suc, add-assoc, lt-irrefl, not-suc-le-zero, le-of-suc-le-suc, lt-of-lt-of-le, zero-lt-suc, eq-or-lt-of-le, mod-lt, pow-suc}

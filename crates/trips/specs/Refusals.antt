@@ -19,7 +19,6 @@ use Rattle.sets.specs.Sets.{has, subset}
 use Rattle.order.specs.declared.Order.{Order}
 use Rattle.ranges.specs.declared.ModifyRow.{ModifyRow}
 use Rattle.ranges.specs.Rows.{noRow}
-use Rattle.policy.specs.declared.Members.{Members}
 use Rattle.policy.specs.declared.People.{People}
 use Rattle.policy.specs.declared.Table.{Table}
 use Rattle.policy.specs.Build.{emptyRow}

@@ -53,8 +53,8 @@ carry-out-requires c κs =
     let at-told = at-change .before in
     let told = at-told .enum-told .given .1 in
     let ready =
-        after-ready _ (opened _ _ (at-told .before .before .read-file .ensures) told) told _ _ (at-change .change-of .ensures) (at-test .if1 .left)
-        (c .before .changed .ensures) in
+    after-ready _ (opened _ _ (at-told .before .before .read-file .ensures) told) told _ _ (at-change .change-of .ensures) (at-test .if1 .left)
+    (c .before .changed .ensures) in
     (ready .good, ready .number)
 
 same-length : tie.Need-same-length

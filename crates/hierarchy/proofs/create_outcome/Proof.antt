@@ -35,7 +35,10 @@ returns-4 c = search first-that-holds depth 12
 
 create-spoils-requires : tie.Need-create-spoils-requires
 create-spoils-requires c κs = (
-    search (needs, first-that-holds, pair-fit) depth 7, not-full _ (asked-false (c .before .is-full .ensures) (c .if4 .left)), search needs)
+  search (needs, first-that-holds, pair-fit) depth 7,
+  not-full _ (asked-false (c .before .is-full .ensures) (c .if4 .left)),
+  search needs,
+)
 
 returns-5 : tie.Need-returns-5
 unfolding createRules

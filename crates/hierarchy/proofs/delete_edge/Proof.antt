@@ -1,7 +1,7 @@
 -- Assumes nothing.
 use mathlib.Core.Path.{refl, sym, _∙_}
 use Rattle.policy.proofs.Changes.{unchanged-answer, reordered-answer}
-use Rattle.hierarchy.proofs.Laws.{good-site}
+use Rattle.hierarchy.proofs.Laws.{site-sound}
 use Rattle.hierarchy.proofs.Accepted.{cut-fits, site-size}
 use Rattle.hierarchy.proofs.Answers.{cut-refused, cut-accepted}
 use borrow.Author.Needs.{needs}
@@ -12,7 +12,7 @@ site-of-requires : tie.Need-site-of-requires
 site-of-requires c κs = search needs
 
 ground-of-requires : tie.Need-ground-of-requires
-ground-of-requires c κs = λ e. good-site _ _ (c .before .site-of .ensures) (c .before .before .pre .1 e)
+ground-of-requires c κs = λ e. site-sound _ _ (c .before .site-of .ensures) (c .before .before .pre .1 e)
 
 cut-outcome-requires : tie.Need-cut-outcome-requires
 cut-outcome-requires c κs =

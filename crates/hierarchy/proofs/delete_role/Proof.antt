@@ -18,7 +18,8 @@ is-occupied-requires c κs = search needs
 
 delete-outcome-requires : tie.Need-delete-outcome-requires
 delete-outcome-requires c κs =
-    let at-site = c .before .before .before in
+    let at-named = c .before .before in
+    let at-site = at-named .before .before in
     site-size _ _ (at-site .site-of .ensures) (at-site .before .pre .modify)
 
 unchanged-requires : tie.Need-unchanged-requires
@@ -28,7 +29,7 @@ returns : tie.Need-returns
 returns c =
     let at-outcome = c .before .before in
     let at-members = at-outcome .before in
-    let at-names = at-members .before in
+    let at-names = at-members .before .before in
     let outcome = at-outcome .delete-outcome .ensures ∙ rules-same _ _ _ (at-names .is-named .ensures) (at-members .is-occupied .ensures) in
     unchanged-answer _ _ (c .unchanged .ensures) (c .before .if1 .taken)
     ∙ delete-refused _ _ _ _ (at-names .before .before .site-of .ensures) outcome (c .before .if1 .taken)
@@ -44,7 +45,7 @@ returns-2 c =
     let at-test = c .before .before in
     let at-outcome = at-test .before in
     let at-members = at-outcome .before in
-    let at-names = at-members .before in
+    let at-names = at-members .before .before in
     let outcome = at-outcome .delete-outcome .ensures ∙ rules-same _ _ _ (at-names .is-named .ensures) (at-members .is-occupied .ensures) in
     reordered-answer _ _ (c .reordered .ensures)
     ∙ delete-accepted _ _ _ _ (at-names .before .before .site-of .ensures) outcome (at-test .if1 .left) (c .before .remove .ensures) refl

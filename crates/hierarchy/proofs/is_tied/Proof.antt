@@ -2,19 +2,18 @@
 use mathlib.Core.Path.{sym, _∙_}
 use Rattle.sets.proofs.Tests.{or-l, or-given}
 use Rattle.hierarchy.specs.Rules.{tied}
-use borrow.Author.Needs.{needs}
 use Rattle.hierarchy.proofs.is_tied.Statement.{statement}
 use Rattle.hierarchy.proofs.is_tied.Tie as tie
 
 is-named-requires : tie.Need-is-named-requires
-is-named-requires c κs = search needs
+is-named-requires c κs = c .pre .tables
 
 returns : tie.Need-returns
 unfolding tied
 returns c = sym (or-l _ _ (sym (c .before .is-named .ensures) ∙ c .if1 .taken))
 
 is-occupied-requires : tie.Need-is-occupied-requires
-is-occupied-requires c κs = search needs
+is-occupied-requires c κs = c .before .before .pre .members
 
 returns-2 : tie.Need-returns-2
 unfolding tied

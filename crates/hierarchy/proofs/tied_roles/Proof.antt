@@ -8,16 +8,20 @@ use Rattle.hierarchy.proofs.tied_roles.Statement.{statement}
 use Rattle.hierarchy.proofs.tied_roles.Tie as tie
 
 abbrev Inv-loop : tie.InvT-loop
-Inv-loop p set₀ a₀ set a = (a ≤ 64) × Gathered (tied p) set a
+Inv-loop tables modify users permissions set₀ a₀ set a = (a ≤ 64) × Gathered (tied tables modify users permissions) set a
 
 abbrev μ-loop : tie.MeasureT-loop
-μ-loop p set₀ a₀ set a = 64 - a
+μ-loop tables modify users permissions set₀ a₀ set a = 64 - a
 
 loop-holds : tie.Need-loop-holds Inv-loop μ-loop
 loop-holds c = (search needs, gather-begin _)
 
 is-tied-requires : tie.Need-is-tied-requires Inv-loop μ-loop
-is-tied-requires c κs = search needs
+is-tied-requires c κs =
+    let at-users = c .before .before .before in
+    let at-modify = at-users .before .before in
+    let sizes = at-modify .before .before .pre in
+    record { tables = (sizes .assign, sizes .revoke, sizes .assignp, sizes .revokep, sizes .modify); members = (sizes .users, sizes .permissions) }
 
 with-requires : tie.Need-with-requires Inv-loop μ-loop
 with-requires c κs = search needs

@@ -4,7 +4,7 @@ use Prim.Native.Nat.{ℕ, _≤_, _-_}
 use native.Mathlib.Omega.{arith}
 use lib.ListN.{length, length-set}
 use Rattle.hierarchy.specs.declared.Site.{Site}
-use Rattle.hierarchy.proofs.Laws.{good-site}
+use Rattle.hierarchy.proofs.Laws.{site-sound}
 use Rattle.hierarchy.proofs.Accepted.{site-size}
 use Rattle.listing.specs.Sites.{siteSet}
 use Rattle.listing.proofs.Laws.{site-rows}
@@ -23,7 +23,7 @@ site-of-requires : tie.Need-site-of-requires Inv-loop μ-loop
 site-of-requires c κs = search needs
 
 ground-of-requires : tie.Need-ground-of-requires Inv-loop μ-loop
-ground-of-requires c κs = λ e. good-site _ _ (c .site-of .ensures) (c .before .pre)
+ground-of-requires c κs = λ e. site-sound _ _ (c .site-of .ensures) (c .before .pre)
 
 tied-roles-requires : tie.Need-tied-roles-requires Inv-loop μ-loop
 tied-roles-requires c κs = c .before .before .pre .sizes

@@ -5,14 +5,14 @@ use mathlib.Core.Bool.{true}
 use lib.ListN.{getD}
 use borrow.Author.Tests.{not-true, not-false}
 use Rattle.sets.specs.Sets.{subset}
-use Rattle.sets.proofs.Members.{Left, left-begin, left-turn}
+use Rattle.sets.proofs.Members.{Remaining, left-begin, left-turn}
 use Rattle.order.proofs.Loops.{left-member, lacks-found, lacks-none}
 use borrow.Author.Needs.{needs}
 use Rattle.order.proofs.lacks_one.Statement.{statement}
 use Rattle.order.proofs.lacks_one.Tie as tie
 
 abbrev Inv-loop : tie.InvT-loop
-Inv-loop juniors row rest₀ rest = Left (λ b. subset 64 (getD juniors b 0) row ≡ true) row rest
+Inv-loop juniors row rest₀ rest = Remaining (λ b. subset 64 (getD juniors b 0) row ≡ true) row rest
 
 abbrev μ-loop : tie.MeasureT-loop
 μ-loop juniors row rest₀ rest = rest

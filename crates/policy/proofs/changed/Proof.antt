@@ -10,7 +10,7 @@ permissions-after-requires : tie.Need-permissions-after-requires
 permissions-after-requires c κs = search needs
 
 returns : tie.Need-returns
-returns c = rw (c .before .before .before .users-after .ensures, c .before .before .permissions-after .ensures)
+returns c = rw (c .before .users-after .ensures, c .permissions-after .ensures)
 
 pub changed-spec : {M : Type 1} → statement M
 changed-spec = tie.close (tie.spec users-after-requires permissions-after-requires returns)

@@ -3,7 +3,7 @@
 use mathlib.Core.Path.{sym, _∙_}
 use Prim.Native.Nat.{_^_, _<_}
 use Rattle.sets.proofs.Tests.{or-fails-l, or-fails-r}
-use Rattle.sets.proofs.Members.{Left, left-begin, left-turn, left-end}
+use Rattle.sets.proofs.Members.{Remaining, left-begin, left-turn, left-end}
 use Rattle.order.specs.Order.{senior}
 use Rattle.ranges.specs.After.{SameAt}
 use Rattle.ranges.proofs.After.{same-wider}
@@ -13,7 +13,7 @@ use Rattle.ranges.proofs.differing.Tie as tie
 
 abbrev Inv-loop : tie.InvT-loop
 Inv-loop used juniors seniors lower upper set₀ rest₀ set rest =
-    (rest < 2 ^ 64) × Left (SameAt (senior juniors) (senior lower) set) used rest
+    (rest < 2 ^ 64) × Remaining (SameAt (senior juniors) (senior lower) set) used rest
 
 abbrev μ-loop : tie.MeasureT-loop
 μ-loop used juniors seniors lower upper set₀ rest₀ set rest = rest

@@ -1,5 +1,5 @@
 -- Assumes nothing.
-use mathlib.Core.Path.{sym, ap₂, _∙_}
+use mathlib.Core.Path.{sym, _∙_}
 use mathlib.Core.Bool.{false≢true}
 use Rattle.policy.proofs.Changes.{decided-refused, decided-accepted}
 use Rattle.policy.specs.Outcome.{accepted}

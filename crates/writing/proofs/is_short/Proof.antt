@@ -1,11 +1,10 @@
 -- Assumes nothing.
-use mathlib.Core.Path.{sym, ap, _∙_}
+use mathlib.Core.Path.{sym, ap}
 use Prim.Native.Nat.{ℕ}
 use native.Mathlib.Omega.{arith}
 use borrow.Author.Tests.{le-ltb}
 use lib.Dec.{ltb}
 use Rattle.layout.proofs.Most.{always-enough}
-use borrow.Author.Needs.{needs}
 use Rattle.writing.proofs.is_short.Statement.{statement}
 use Rattle.writing.proofs.is_short.Tie as tie
 
