@@ -16,7 +16,7 @@
 enum { RANDOM_POLICIES = 3000, SEED = 1 };
 
 /* A listing of a full-size policy may cost so many checks of the same file. */
-enum { LISTING_LIMIT = 3000 };
+enum { LISTING_LIMIT = 600 };
 
 /* ---- What is measured ---- */
 
@@ -121,8 +121,17 @@ static struct measured full_size(enum shape shape)
 /* ---- The calls ---- */
 
 enum { CALLS = 5 };
-static const char *const call_name[CALLS] = {
-    "check", "question", "request: put a user in a role", "request: create a role", "listing",
+
+/* What the archive may cost, the plain version's cost being 1: on F, and at full size. */
+static const struct {
+    const char *name;
+    double small, full;
+} calls[CALLS] = {
+    {"check", 8, 1.5},
+    {"question", 8, 1.5},
+    {"request: put a user in a role", 12, 1.5},
+    {"request: create a role", 12, 1.5},
+    {"listing", 25, 1.5},
 };
 
 static struct call call_of(const struct measured *m, unsigned which)
@@ -150,9 +159,9 @@ static bool agree_on_measured(const struct measured *m)
 
 /* ---- The archive beside the plain version ---- */
 
-static void print_ratio(double ratio)
+static void print_number(double ratio)
 {
-    printf(ratio < 10 ? " %.1f |" : " %.0f |", ratio);
+    printf(ratio < 10 ? " %.1f" : " %.0f", ratio);
 }
 
 static double ratio_to_plain(const struct call *c)
@@ -162,20 +171,28 @@ static double ratio_to_plain(const struct call *c)
     return cost(&pair[0]) / cost(&pair[1]);
 }
 
-static void print_beside_plain(const struct measured *measured)
+/* Whether every ratio keeps its limit. */
+static bool print_beside_plain(const struct measured *measured)
 {
-    printf("\nThe archive's cost, the plain version's being 1:\n\n| |");
+    bool held = true;
+    printf("\nThe archive's cost, the plain version's being 1, with the limit in brackets:\n\n| |");
     for (unsigned i = 0; i < MEASURED; i++)
         printf(" %s |", measured[i].name);
     printf("\n|---|---|---|---|\n");
     for (unsigned which = 0; which < CALLS; which++) {
-        printf("| %s |", call_name[which]);
+        printf("| %s |", calls[which].name);
         for (unsigned i = 0; i < MEASURED; i++) {
             struct call c = call_of(&measured[i], which);
-            print_ratio(ratio_to_plain(&c));
+            double limit = i == F ? calls[which].small : calls[which].full;
+            double ratio = ratio_to_plain(&c);
+            print_number(ratio);
+            printf(limit < 10 ? " (%.1f)%s |" : " (%.0f)%s |", limit,
+                   ratio <= limit ? "" : " ABOVE");
+            held = held && ratio <= limit;
         }
         printf("\n");
     }
+    return held;
 }
 
 /* ---- The limit of a listing ---- */
@@ -254,7 +271,8 @@ static void print_growth(const struct grown grown[GROWN], enum entry entry, cons
     for (unsigned i = 0; i < GROWN; i++) {
         if (i % BY_ROWS == 0)
             printf("\n| roles: %u |", grown_roles[i / BY_ROWS]);
-        print_ratio(cost(&subjects[i]) / cost(&subjects[0]));
+        print_number(cost(&subjects[i]) / cost(&subjects[0]));
+        printf(" |");
     }
     printf("\n");
 }
@@ -280,11 +298,11 @@ int main(void)
     printf("The archive, the plain version and the reference agree on all policies measured\n"
            "and on %d random ones with their damaged files.\n",
            RANDOM_POLICIES);
-    print_beside_plain(measured);
-    bool held = print_limit(measured);
+    bool held = print_beside_plain(measured);
+    held = print_limit(measured) && held;
     print_growth(grown, CHECK, "check");
     print_growth(grown, LISTING, "listing");
     if (!held)
-        printf("\nFAILED: a full-size listing costs more than %d checks\n", LISTING_LIMIT);
+        printf("\nFAILED: something costs more than it may\n");
     return held ? 0 : 1;
 }

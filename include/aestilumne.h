@@ -11,7 +11,7 @@
  *   - each pointer is valid for the length beside it. A length of 0 still takes a pointer that
  *     is not null;
  *   - `out` does not overlap `policy`.
- * A call uses up to 135 KB of stack (measured on x86-64, not proved).
+ * A call needs the stack that AESTILUMNE_STACK_.. says, whatever the file holds.
  *
  * An answer is ONE number that holds four. It is never a truth value: take it apart with
  * aestilumne_apart, or ask aestilumne_may.
@@ -86,6 +86,16 @@ enum aestilumne_table_number {
 /* Sizes that are always enough. */
 #define AESTILUMNE_FILE_ENOUGH 10375    /* bytes of a policy file */
 #define AESTILUMNE_LISTING_ENOUGH 37056 /* bytes of a listing */
+
+/* Bytes of stack that a call takes at most, of good files and of damaged ones: upper bounds,
+ * derived from the archive for x86-64, in which the C library's memcpy, memmove and memset
+ * count with 1,024 bytes. A thread needs what its own functions take beside it, and what the
+ * C library keeps on a thread's stack. */
+#define AESTILUMNE_STACK_CHECK 44032
+#define AESTILUMNE_STACK_QUESTION 46080
+#define AESTILUMNE_STACK_TABLE 44032
+#define AESTILUMNE_STACK_REQUEST 78848
+#define AESTILUMNE_STACK_LISTING 54272
 
 /* Is this a policy file? Outcome 0 or 20 to 27. */
 uint64_t aestilumne_check(const uint8_t *policy, size_t n);
