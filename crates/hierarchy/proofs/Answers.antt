@@ -29,8 +29,8 @@ module _ (p : Policy) (o a b : ℕ) {s : Site} (e : s ≡ site p o) {m : ℕ} wh
     unfolding createRole
     create-refused z = answer-refused p _ _ _ outcome-5 z
 
-    pub create-accepted : m ≡ 0 → {n : ℕ} → n ≡ lowestFree 64 (s .roles .used) → {r : Order} → r ≡ create (s .roles) n a b → {q : Policy} → q ≡ withRoles p r
-        → accepted q n ≡ createRole p o a b
+    pub create-accepted : m ≡ 0 → {n : ℕ} → n ≡ lowestFree 64 (s .roles .used) → {r : Order} → r ≡ create (s .roles) n a b
+        → {q : Policy} → q ≡ withRoles p r → accepted q n ≡ createRole p o a b
     unfolding createRole
     create-accepted z {n} d {r} g {q} k =
         let after = g ∙ ap (λ (x : Order). create x n a b) (site-roles p o e)
@@ -39,7 +39,8 @@ module _ (p : Policy) (o a b : ℕ) {s : Site} (e : s ≡ site p o) {m : ℕ} wh
 
   module _ (h : m ≡ first (deleteRules s (named (p .tables) (p .modify) a) (someIn (p .people .users) a or someIn (p .permissions) a) a b)) where
     outcome-6 : m ≡ first (deleteRules (site p o) (named (p .tables) (p .modify) a) (someIn (p .people .users) a or someIn (p .permissions) a) a b)
-    outcome-6 = h ∙ ap (λ (t : Site). first (deleteRules t (named (p .tables) (p .modify) a) (someIn (p .people .users) a or someIn (p .permissions) a) a b)) e
+    outcome-6 =
+        h ∙ ap (λ (t : Site). first (deleteRules t (named (p .tables) (p .modify) a) (someIn (p .people .users) a or someIn (p .permissions) a) a b)) e
 
     pub delete-refused : (m ≡ 0 → ⊥) → refused p m ≡ deleteRole p o a b
     unfolding deleteRole
@@ -57,7 +58,8 @@ module _ (p : Policy) (o a b : ℕ) {s : Site} (e : s ≡ site p o) {m : ℕ} wh
     unfolding insertEdge
     insert-refused z = answer-refused p _ _ _ outcome-7 z
 
-    pub insert-accepted : m ≡ 0 → {r : Order} → r ≡ insert (s .roles) a b → {q : Policy} → q ≡ withRoles p r → accepted q 0 ≡ insertEdge p o a b
+    pub insert-accepted : m ≡ 0 → {r : Order} → r ≡ insert (s .roles) a b → {q : Policy} → q ≡ withRoles p r
+        → accepted q 0 ≡ insertEdge p o a b
     unfolding insertEdge
     insert-accepted z g k = answer-accepted p _ _ _ outcome-7 z (k ∙ ap (withRoles p) (g ∙ ap (λ (x : Order). insert x a b) (site-roles p o e))) refl
 
@@ -74,5 +76,6 @@ module _ (p : Policy) (o a b : ℕ) {s : Site} (e : s ≡ site p o) {m : ℕ} wh
     cut-accepted z g k = answer-accepted p _ _ _ outcome-8 z (k ∙ ap (withRoles p) (g ∙ ap (λ (x : Order). cutEdge x a b) (site-roles p o e))) refl
 
 -- the rules of kind 6 go by what the code finds of names and members
-pub rules-same : (s : Site) (a b : ℕ) {n n′ m m′ : Bool} → n ≡ n′ → m ≡ m′ → first (deleteRules s n m a b) ≡ first (deleteRules s n′ m′ a b)
+pub rules-same : (s : Site) (a b : ℕ) {n n′ m m′ : Bool} → n ≡ n′ → m ≡ m′
+    → first (deleteRules s n m a b) ≡ first (deleteRules s n′ m′ a b)
 rules-same s a b e d = ap₂ (λ (x y : Bool). first (deleteRules s x y a b)) e d

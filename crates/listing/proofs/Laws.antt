@@ -69,7 +69,8 @@ accepts-site p o a b k l m n =
     (λ e5. by-test (eqb k 7) (λ e. at 7 e (accepts-insert p o a b))
     (λ e7. at 8 (eq-eqb k 8 (eight (eqb-false k 5 e5) (eqb-false k 7 e7))) (accepts-cut p o a b)))
   where
-    at : (c : ℕ) → eqb k c ≡ true → accepts p o c a b ≡ eqb (siteOutcome (site p o) c a b) 0 → accepts p o k a b ≡ eqb (siteOutcome (site p o) k a b) 0
+    at : (c : ℕ) → eqb k c ≡ true → accepts p o c a b ≡ eqb (siteOutcome (site p o) c a b) 0
+        → accepts p o k a b ≡ eqb (siteOutcome (site p o) k a b) 0
     at c e h = rw (eqb-true k c e) h
 
     eight : (k ≡ 5 → ⊥) → (k ≡ 7 → ⊥) → k ≡ 8
@@ -104,13 +105,15 @@ module _ (s : Site) (a b : ℕ) where
   unfolding siteOutcome
   create-member e = let ok = create-ok s a b e in (known-first s a b (ok .known), ok .senior)
 
-  pub insert-member : siteOutcome s 7 a b ≡ 0 → (has (s .roles .used) a ≡ true) × (has (s .roles .used) b ≡ true) × (comparable (over s) a b ≡ false)
+  pub insert-member : siteOutcome s 7 a b ≡ 0
+      → (has (s .roles .used) a ≡ true) × (has (s .roles .used) b ≡ true) × (comparable (over s) a b ≡ false)
   unfolding siteOutcome
   insert-member e =
       let ok = insert-ok s a b e in
       (known-first s a b (ok .known), known-second s a b (ok .known), ok .apart)
 
-  pub cut-member : (kind : ℕ) → (kind ≡ 5 → ⊥) → (kind ≡ 7 → ⊥) → siteOutcome s kind a b ≡ 0 → (has (s .roles .used) a ≡ true) × (over s a b ≡ true)
+  pub cut-member : (kind : ℕ) → (kind ≡ 5 → ⊥) → (kind ≡ 7 → ⊥) → siteOutcome s kind a b ≡ 0
+      → (has (s .roles .used) a ≡ true) × (over s a b ≡ true)
   unfolding siteOutcome edge
   cut-member kind n m e =
       let ok = cut-ok s a b (rw (ne-eqb kind 5 n, ne-eqb kind 7 m) at e) in
@@ -159,7 +162,8 @@ unfolding deleteRules first _or_
 tied-refusals s true members a b = refl
 tied-refusals s false true a b = by-ends (neg (eqb b 0)) (unknownRole s a) (neg (mayModify s 6 a b))
   where
-    by-ends : (x y z : Bool) → eqb (pick x 1 (pick y 2 (pick z 3 (pick true 7 (pick false 8 0))))) 0 ≡ eqb (pick x 1 (pick y 2 (pick z 3 (pick false 7 (pick true 8 0))))) 0
+    by-ends : (x y z : Bool) → eqb (pick x 1 (pick y 2 (pick z 3 (pick true 7 (pick false 8 0))))) 0
+        ≡ eqb (pick x 1 (pick y 2 (pick z 3 (pick false 7 (pick true 8 0))))) 0
     by-ends true y z = refl
     by-ends false true z = refl
     by-ends false false true = refl
@@ -178,7 +182,8 @@ site-rows p o j l =
     (λ t. rw t
     (setOf-same 64 _ _ (λ b h. sym (accepts-site p o (j % 64) b (5 + j / 64) (omega arith) (omega arith) (eqb-false (5 + j / 64) 6 t)))))
   where
-    tied-at : (a : ℕ) → a < 64 → has (setOf 64 (tiedIn p)) a ≡ (named (p .tables) (p .modify) a or (someIn (p .people .users) a or someIn (p .permissions) a))
+    tied-at : (a : ℕ) → a < 64
+        → has (setOf 64 (tiedIn p)) a ≡ (named (p .tables) (p .modify) a or (someIn (p .people .users) a or someIn (p .permissions) a))
     tied-at a k = has-setOf 64 (tiedIn p) a k ∙ tied-is p a
 
 -- ---- the count
@@ -190,11 +195,14 @@ in-row rows j b l =
     let m : (j * 64 + b) % 64 ≡ b = omega arith in
     rw (d, m)
 
-pub total-turn : (rows : List ℕ) (j n s : ℕ) → n ≡ count (j * 64) (inRows rows) → s ≡ size 64 (getD rows j 0) → n + s ≡ count ((j + 1) * 64) (inRows rows)
+pub total-turn : (rows : List ℕ) (j n s : ℕ) → n ≡ count (j * 64) (inRows rows) → s ≡ size 64 (getD rows j 0)
+    → n + s ≡ count ((j + 1) * 64) (inRows rows)
 unfolding size
 total-turn rows j n s e d =
     let k : (j + 1) * 64 ≡ j * 64 + 64 = omega arith in
-    rw (k, e, d) (sym (count-add (j * 64) 64 (inRows rows) ∙ ap (λ (x : ℕ). count (j * 64) (inRows rows) + x) (count-same 64 _ _ (λ b l. in-row rows j b l))))
+    rw (k, e, d)
+    (sym (count-add (j * 64) 64 (inRows rows)
+    ∙ ap (λ (x : ℕ). count (j * 64) (inRows rows) + x) (count-same 64 _ _ (λ b l. in-row rows j b l))))
 
 -- ---- what is gathered is what is listed
 pub rows-listed : (p : Policy) (o : ℕ) (rows : List ℕ) → AcceptedRows p o rows → (i : ℕ) → i < placeCount → inRows rows i ≡ listedAt p o i
@@ -202,7 +210,8 @@ unfolding inRows listedAt acceptedSet
 rows-listed p o rows g i l =
     let h : i / 64 < 256 = omega arith in
     let k : i / 64 / 64 ≡ i / 4096 = omega arith in
-    ap (λ (s : ℕ). has s (i % 64)) (g .row (i / 64) h) ∙ has-setOf 64 _ (i % 64) (omega arith) ∙ ap (λ (x : ℕ). accepts p o (5 + x) (i / 64 % 64) (i % 64)) k
+    ap (λ (s : ℕ). has s (i % 64)) (g .row (i / 64) h) ∙ has-setOf 64 _ (i % 64) (omega arith)
+    ∙ ap (λ (x : ℕ). accepts p o (5 + x) (i / 64 % 64) (i % 64)) k
 
 -- ---- the bytes
 each-same : (f g : ℕ → List ℕ) (N : ℕ) → ((i : ℕ) → i < N → f i ≡ g i) → (n i : ℕ) → i + n ≤ N → each f n i ≡ each g n i

@@ -5,7 +5,7 @@ ghost use lib.Dec.{eqb};
 ghost use lib.ListN.{length, getD};
 ghost use Rattle.sets.specs.Tests.{_and_, _or_, neg};
 ghost use Rattle.sets.specs.Sets.{has, any, subset, Exactly};
-ghost use Rattle.order.specs.Order.{senior, atLeast, comparable, reaches, reached, faulty, firstFault, edge};
+ghost use Rattle.order.specs.Order.{senior, atLeast, comparable, reached, faulty, firstFault, edge};
 ghost use Rattle.order.specs.Effects.{create, remove, insert, cutEdge};
 ghost use Rattle.order.specs.Rows.{Spread, Dropped, Raised, Above};
 use sets::both;
@@ -104,18 +104,6 @@ pub fn seniors_of(above: &[u64], b: usize) -> u64
     ensures { λ r. ⌜ r ≡ getD (now (above .entry)) b 0 ⌝ }
 {
     juniors_of(above, b)
-}
-
-// Is some member of set b or senior to b?
-pub fn reaches(juniors: &[u64], set: u64, b: usize) -> bool
-    requires { ⌜ length (now juniors) ≤ 64 ⌝ }
-    ensures { λ r. ⌜ r ≡ reaches (senior (now (juniors .entry))) set b ⌝ }
-{
-    if 64 <= b {
-        return false;
-    }
-    let above = with(seniors(juniors, b), b);
-    both(set, above) != 0
 }
 
 // The members of set and all their juniors.

@@ -2,7 +2,7 @@
 ghost use mathlib.Core.Path.{_≡_};
 ghost use lib.ListN.{getD};
 ghost use Rattle.order.specs.Order.{senior};
-ghost use Rattle.policy.specs.Build.{emptyOrder, emptyMembers, emptyRow, emptyTable, emptyRanges, emptyTables, emptyPolicy, putRoles, withRoles, withUsers, withPermissions};
+ghost use Rattle.policy.specs.Build.{emptyOrder, emptyMembers, emptyRow, emptyTable, emptyRanges, emptyTables, emptyPolicy, putRoles, withPermissions};
 ghost use Rattle.policy.specs.Change.{unchanged, reordered, usersAfter, permissionsAfter, changed};
 ghost use Rattle.policy.specs.Outcome.{refused, accepted};
 ghost use Rattle.policy.specs.Question.{mayExercise, question};
@@ -189,28 +189,6 @@ pub fn empty_policy() -> Policy
         tables,
         modify,
     }
-}
-
-// The policy with another order of roles.
-pub fn with_roles(p: Policy, roles: Order) -> Policy
-    ensures { λ r. ⌜ r ≡ withRoles p roles ⌝ }
-{
-    let mut orders = p.orders;
-    orders.roles = roles;
-    let mut q = p;
-    q.orders = orders;
-    q
-}
-
-// The policy with other users.
-pub fn with_users(p: Policy, users: Members) -> Policy
-    ensures { λ r. ⌜ r ≡ withUsers p users ⌝ }
-{
-    let mut people = p.people;
-    people.users = users;
-    let mut q = p;
-    q.people = people;
-    q
 }
 
 // The policy with other permissions.
