@@ -112,16 +112,20 @@ module _ (p : Policy) (g : Good p) where
       let ab = length-append a b in
       let abc = length-append (a ++ b) c in
       let abcd = length-append (a ++ b ++ c) d in
+      let b-at = at + length a in
+      let c-at = b-at + length b in
+      let d-at = c-at + length c in
+      let e-at = d-at + length d in
+      let end = at + length (a ++ b ++ c ++ d ++ e) in
       let ra = rows-read s roles admins u v true (p .tables .assign) (g .sizes .assign) (g .assign) (λ x. clash refl x) at (stands-first a b w2) in
-      let rb = rows-read s roles admins u v false (p .tables .revoke) (g .sizes .revoke) (g .revoke) (λ x. g .revoke-plain) (at + length a) (stands-second a b w2) in
-      let rc = rows-read s roles admins u v true (p .tables .assignp) (g .sizes .assignp) (g .assignp) (λ x. clash refl x) (at + length a + length b)
+      let rb = rows-read s roles admins u v false (p .tables .revoke) (g .sizes .revoke) (g .revoke) (λ x. g .revoke-plain) b-at (stands-second a b w2) in
+      let rc = rows-read s roles admins u v true (p .tables .assignp) (g .sizes .assignp) (g .assignp) (λ x. clash refl x) c-at
       (stands-after (a ++ b) c (omega arith) w3) in
-      let rd = rows-read s roles admins u v false (p .tables .revokep) (g .sizes .revokep) (g .revokep) (λ x. g .revokep-plain) (at + length a + length b + length c)
+      let rd = rows-read s roles admins u v false (p .tables .revokep) (g .sizes .revokep) (g .revokep) (λ x. g .revokep-plain) d-at
       (stands-after (a ++ b ++ c) d (omega arith) w4) in
-      let re = ranges-read s roles admins u v (p .modify) (g .sizes .modify) (g .modify) (at + length a + length b + length c + length d)
-      (stands-after (a ++ b ++ c ++ d) e (omega arith) w) in
-      let z : at + length a + length b + length c + length d + length e ≡ at + length (a ++ b ++ c ++ d ++ e) = omega (arith, length-append (a ++ b ++ c ++ d) e) in (
-        places at (at + length a) (at + length a + length b) (at + length a + length b + length c) (at + length a + length b + length c + length d) (at + length (a ++ b ++ c ++ d ++ e)),
+      let re = ranges-read s roles admins u v (p .modify) (g .sizes .modify) (g .modify) e-at (stands-after (a ++ b ++ c ++ d) e (omega arith) w) in
+      let z : e-at + length e ≡ end = omega (arith, length-append (a ++ b ++ c ++ d) e) in (
+        places at b-at c-at d-at e-at end,
         rw (ra, rb, rc, rd, re, z),
       )
 

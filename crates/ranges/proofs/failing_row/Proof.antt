@@ -81,14 +81,16 @@ words′ = sliceTy (tyRef (named 2) imm (pointee (u64 .written)))
 -- where what a turn begins with stands when the turn is over
 abbrev back : List ℕ
 back =
-    6 ∷ 7 ∷ 8 ∷ 9 ∷ 10 ∷ 11 ∷ 12 ∷ 13 ∷ 14 ∷ 15 ∷ 16 ∷ 17 ∷ 18 ∷ 19 ∷ 20 ∷ 21 ∷ 22 ∷ 23 ∷ 24 ∷ 25 ∷ 26 ∷ 27 ∷ 28 ∷ 29 ∷ 4 ∷ 1 ∷ 0 ∷ 5 ∷ 3 ∷ 2 ∷ []
+    6 ∷ 7 ∷ 8 ∷ 9 ∷ 10 ∷ 11 ∷ 12 ∷ 13 ∷ 14 ∷ 15 ∷ 16 ∷ 17 ∷ 18 ∷ 19 ∷ 20 ∷ 21
+    ∷ 22 ∷ 23 ∷ 24 ∷ 25 ∷ 26 ∷ 27 ∷ 28 ∷ 29 ∷ 4 ∷ 1 ∷ 0 ∷ 5 ∷ 3 ∷ 2 ∷ []
 
 -- the contract that the proof cites
 abbrev Callee : {M : Type 1} (𝓤 : URA M) (H : Heap 𝓤) (A : Atoms 𝓤) (mem : Memory → SProp 𝓤) (run : Routine → Fun 𝓤) → Contract 𝓤
 Callee 𝓤 H A mem run = tripleOf 𝓤 H A callee.signature (callee.spec 𝓤 H A mem run)
 
-module _ {M : Type 1} (𝓤 : URA M) (H : Heap 𝓤) (A : Atoms 𝓤) (W : Given 𝓤 H A) (mem : Memory → SProp 𝓤) (run : Routine → Fun 𝓤) (κ₀ κ₁ κ₂ : Lft)
-    (q₀ q₁ q₂ : Share) (b o : ℕ) (γ : GName) (ys : List ModifyRow) (sought : Look) (used : ℕ) (j up : RefT (List ℕ)) where
+module _ {M : Type 1} (𝓤 : URA M) (H : Heap 𝓤) (A : Atoms 𝓤) (W : Given 𝓤 H A) (mem : Memory → SProp 𝓤) (run : Routine → Fun 𝓤)
+    (κ₀ κ₁ κ₂ : Lft) (q₀ q₁ q₂ : Share) (b o : ℕ) (γ : GName)
+    (ys : List ModifyRow) (sought : Look) (used : ℕ) (j up : RefT (List ℕ)) where
   abbrev s : RefT (List ModifyRow)
   s = record { ptr = (b, o); name = γ; now = ys }
 
@@ -168,11 +170,13 @@ module _ {M : Type 1} (𝓤 : URA M) (H : Heap 𝓤) (A : Atoms 𝓤) (W : Given
     goes g gl gu above =
         qed W (‵ (flft κ₁ q₁) ∷ ‵ (flft κ₂ q₂) ∷ ‵ OwnJ ∷ ‵ OwnU ∷ []) ∵
         says ! above $ nothing ! $ move ! (2 ∷ 0 ∷ []) $ join ! $ move ! (1 ∷ 0 ∷ []) $ join ! $ frame ! $
-        nothing ! $ move ! (2 ∷ 0 ∷ []) $ fjoin ! $ move ! (1 ∷ 0 ∷ []) $ fjoin ! $ owned ! u64 (Is u64) (uint-makes 𝓤 H A W w64) used _ (refl, gu) $ fjoin ! $
+        nothing ! $ move ! (2 ∷ 0 ∷ []) $ fjoin ! $ move ! (1 ∷ 0 ∷ []) $ fjoin ! $
+        owned ! u64 (Is u64) (uint-makes 𝓤 H A W w64) used _ (refl, gu) $ fjoin ! $
         owned ! L.the-row (Is L.the-row) (EL.makes L.the-type L′.the-plain 𝓤 H A) sought _ gl $ fjoin ! $
         owned ! T.the-row (Is T.the-row) (LL.makes T.the-type T′.the-plain 𝓤 H A) elem _ g $ fjoin ! $ done !
 
-  module _ (𝓣 : Tables 𝓤 H) (known : Triple 𝓤 (𝓣 .C #callee) (Callee 𝓤 H A mem run)) (gn : Room T.the-row (length ys)) (gl : Is L.the-row sought (vl ∷ []))
+  module _ (𝓣 : Tables 𝓤 H) (known : Triple 𝓤 (𝓣 .C #callee) (Callee 𝓤 H A mem run))
+      (gn : Room T.the-row (length ys)) (gl : Is L.the-row sought (vl ∷ []))
       (gu : used < 2 ^ 64) (gj : Room u64 (length (now j))) (gp : Room u64 (length (now up))) (above : Above (now j) (now up))
       (l₀ l₁ l₂ l₃ l₄ l₅ l₆ l₇ l₈ l₉ l₁₀ l₁₁ : ℕ) where
     abbrev C : Calls 𝓤 H
@@ -184,18 +188,19 @@ module _ {M : Type 1} (𝓤 : URA M) (H : Heap 𝓤) (A : Atoms 𝓤) (W : Given
     -- the locals: the result, rows, sought, used, juniors, seniors, i, the count and then the offset, the test, what the callee says, the place of
     -- `rows[i]`, and the row
     abbrev En : Env 𝓤 H
-    En = (word, l₀) ∷ (slice, l₁) ∷ (L′.mir, l₂) ∷ (word, l₃) ∷ (words, l₄) ∷ (words′, l₅) ∷ (word, l₆) ∷ (word, l₇) ∷ (tyBool, l₈) ∷ (tyBool, l₉)
-        ∷ (tyPtr, l₁₀) ∷ (T′.mir, l₁₁) ∷ []
+    En = (word, l₀) ∷ (slice, l₁) ∷ (L′.mir, l₂) ∷ (word, l₃) ∷ (words, l₄) ∷ (words′, l₅)
+        ∷ (word, l₆) ∷ (word, l₇) ∷ (tyBool, l₈) ∷ (tyBool, l₉) ∷ (tyPtr, l₁₀) ∷ (T′.mir, l₁₁) ∷ []
 
     -- where a turn begins
     abbrev At : Turn Reach p → List (Item 𝓤)
-    At x = ‵ (froom T′.mir l₁₁ 0) ∷ ‵ (fdies T′.mir l₁₁) ∷ ‵ (froom tyPtr l₁₀ 0) ∷ ‵ (fdies tyPtr l₁₀) ∷ ‵ (froom tyBool l₉ 0) ∷ ‵ (fdies tyBool l₉)
+    At x = ‵ (froom T′.mir l₁₁ 0) ∷ ‵ (fdies T′.mir l₁₁) ∷ ‵ (froom tyPtr l₁₀ 0) ∷ ‵ (fdies tyPtr l₁₀)
+        ∷ ‵ (froom tyBool l₉ 0) ∷ ‵ (fdies tyBool l₉)
         ∷ ‵ (froom tyBool l₈ 0) ∷ ‵ (fdies tyBool l₈) ∷ ‵ (froom word l₇ 0) ∷ ‵ (fdies word l₇)
         ∷ ‵ (fat fullShare word l₆ 0 (vint w64 (x .i))) ∷ ‵ (fdies word l₆) ∷ ‵ (fat fullShare words′ l₅ 0 vu) ∷ ‵ (fdies words′ l₅)
         ∷ ‵ (fat fullShare words l₄ 0 vj) ∷ ‵ (fdies words l₄) ∷ ‵ (fat fullShare word l₃ 0 (vint w64 used)) ∷ ‵ (fdies word l₃)
         ∷ ‵ (fat fullShare L′.mir l₂ 0 vl) ∷ ‵ (fdies L′.mir l₂)
-        ∷ ‵ (fat fullShare slice l₁ 0 v) ∷ ‵ (fdies slice l₁) ∷ ‵ (froom word l₀ 0) ∷ ‵ (fdies word l₀) ∷ ‵ (flft κ₀ q₀) ∷ ‵ (flft κ₁ q₁) ∷ ‵ (flft κ₂ q₂)
-        ∷ ‵ OwnS ∷ ‵ OwnJ ∷ ‵ OwnU ∷ []
+        ∷ ‵ (fat fullShare slice l₁ 0 v) ∷ ‵ (fdies slice l₁) ∷ ‵ (froom word l₀ 0) ∷ ‵ (fdies word l₀)
+        ∷ ‵ (flft κ₀ q₀) ∷ ‵ (flft κ₁ q₁) ∷ ‵ (flft κ₂ q₂) ∷ ‵ OwnS ∷ ‵ OwnJ ∷ ‵ OwnU ∷ []
 
     -- when the loop is left, the rest of the body runs
     abbrev Left : Out → SProp 𝓤
@@ -210,10 +215,13 @@ module _ {M : Type 1} (𝓤 : URA M) (H : Heap 𝓤) (A : Atoms 𝓤) (W : Given
         forget ! 22 refl $
         move ! (22 ∷ 23 ∷ []) $ free1 ! $ move ! (20 ∷ 21 ∷ []) $ free1 ! $ move ! (18 ∷ 19 ∷ []) $ free1 ! $ move ! (16 ∷ 17 ∷ []) $ free1 ! $
         move ! (14 ∷ 15 ∷ []) $ free1 ! $ move ! (12 ∷ 13 ∷ []) $ free1 ! $ move ! (10 ∷ 11 ∷ []) $ free1 ! $
-        move ! (8 ∷ 9 ∷ []) $ free1 ! $ move ! (6 ∷ 7 ∷ []) $ free1 ! $ move ! (4 ∷ 5 ∷ []) $ free1 ! $ move ! (2 ∷ 3 ∷ []) $ free1 ! $ free1 ! $ free0 ! $
-        keep ! (0 ∷ 1 ∷ 2 ∷ []) $ owned ! usize (Is usize) (uint-makes 𝓤 H A W w64) (x .i) (vint w64 (x .i) ∷ []) (refl, lt-of-le-of-lt (x .stands) (gn .0)) $
+        move ! (8 ∷ 9 ∷ []) $ free1 ! $ move ! (6 ∷ 7 ∷ []) $ free1 ! $ move ! (4 ∷ 5 ∷ []) $ free1 ! $
+        move ! (2 ∷ 3 ∷ []) $ free1 ! $ free1 ! $ free0 ! $
+        keep ! (0 ∷ 1 ∷ 2 ∷ []) $
+        owned ! usize (Is usize) (uint-makes 𝓤 H A W w64) (x .i) (vint w64 (x .i) ∷ []) (refl, lt-of-le-of-lt (x .stands) (gn .0)) $
         nothing ! $ move ! (4 ∷ 0 ∷ []) $ join ! $ move ! (3 ∷ 0 ∷ []) $ join ! $ move ! (2 ∷ 0 ∷ []) $ join ! $
-        by ! (ends-with 𝓤 H A W this.ended (this.clauses 𝓤 H A mem run) bound (vint w64 (x .i)) (x .i) (tt, (tt, (tt, (tt, (tt, tt))))) (factI 𝓤 _ (emp 𝓤) f))
+        by ! (ends-with 𝓤 H A W this.ended (this.clauses 𝓤 H A mem run) bound (vint w64 (x .i)) (x .i) (tt, (tt, (tt, (tt, (tt, tt)))))
+        (factI 𝓤 _ (emp 𝓤) f))
 
     turn : (x : Turn Reach p) → Sq W (At x) (runs C Λ En part.turn-1 (anyQ (afterTurn 𝓤 H (Below 𝓤 H A (fewer Reach p (length ys)) At x) Left)))
     unfolding afterTurn
@@ -229,26 +237,28 @@ module _ {M : Type 1} (𝓤 : URA M) (H : Heap 𝓤) (A : Atoms 𝓤) (W : Given
         (from ! (stop !)) (init ! 2 refl (tt, tt)) $
         rewrite ! 2 (λ (a : ℕ). ‵ (fat fullShare tyPtr l₁₀ 0 (vptr b a))) (sym (place-is 3 o (x .i))) refl $
         -- the row is read through a copy of the slice
-        move ! (27 ∷ []) $ use1 W (‵ OwnS ⊛ ‵ OwnS) (shr-slice-copy 𝓤 H A W (named 0) κ₀ T.the-row .twice s (v ∷ [])) $ split ! $ fsplit ! $ drop ! $ fsplit ! $
-        drop ! $ move ! (0 ∷ 26 ∷ []) $
+        move ! (27 ∷ []) $ use1 W (‵ OwnS ⊛ ‵ OwnS) (shr-slice-copy 𝓤 H A W (named 0) κ₀ T.the-row .twice s (v ∷ [])) $
+        split ! $ fsplit ! $ drop ! $ fsplit ! $ drop ! $ move ! (0 ∷ 26 ∷ []) $
         looks-slice ! tt T.the-row (Is T.the-row) (shows 𝓤 H A T.the-row) (LL.vals T.the-type T′.the-laws) (LL.tells T.the-type T′.the-laws)
         (LL.copy T.the-type T′.the-copy 𝓤 H A W) ys b o (λ q′.
-        elem-out ! T.the-row (Is T.the-row) (shows 𝓤 H A T.the-row) (LL.vals T.the-type T′.the-laws) (LL.tells T.the-type T′.the-laws) q′ ys (x .i) noRow b o
-        (ltb→lt _ _ h) (λ g.
+        elem-out ! T.the-row (Is T.the-row) (shows 𝓤 H A T.the-row) (LL.vals T.the-type T′.the-laws) (LL.tells T.the-type T′.the-laws)
+        q′ ys (x .i) noRow b o (ltb→lt _ _ h) (λ g.
         -- [rows[i]; what it owns; the others; what shuts; the fractured borrow; what rows owns; _11; …]
         assigns ! (of-opd ! (load ! (from ! (hop ! (look ! 8 refl) (stop !))) (look-raw ! 0 refl))) (from ! (stop !))
         (init ! 6 refl (LL.lawful T.the-type T′.the-laws 𝓤 H A W .typed (elem (x .i)) _ g .0)) $
         elem-back ! T.the-row q′ ys (x .i) noRow (mach (x .i) ∷ []) b o (ltb→lt _ _ h) $ shuts-slice ! tt T.the-row q′ ys b o $
         -- [the token of rows; the fractured borrow; what rows owns; _11; …; the tokens of juniors and seniors; what juniors owns; what seniors owns]
-        move ! (1 ∷ []) $ drop ! $ move ! (28 ∷ []) $ use1 W (‵ OwnJ ⊛ ‵ OwnJ) (shr-slice-copy 𝓤 H A W (named 1) κ₁ u64 .twice j (vj ∷ [])) $ split ! $
-        move ! (30 ∷ []) $ use1 W (‵ OwnU ⊛ ‵ OwnU) (shr-slice-copy 𝓤 H A W (named 2) κ₂ u64 .twice up (vu ∷ [])) $ split ! $ move ! (30 ∷ 31 ∷ 2 ∷ 0 ∷ []) $
-        group ! 4 $ use1 W (raw (Callee 𝓤 H A mem run .pre (to (x .i)))) (goes (x .i) g gl gu above) $
+        move ! (1 ∷ []) $ drop ! $ move ! (28 ∷ []) $
+        use1 W (‵ OwnJ ⊛ ‵ OwnJ) (shr-slice-copy 𝓤 H A W (named 1) κ₁ u64 .twice j (vj ∷ [])) $ split ! $
+        move ! (30 ∷ []) $ use1 W (‵ OwnU ⊛ ‵ OwnU) (shr-slice-copy 𝓤 H A W (named 2) κ₂ u64 .twice up (vu ∷ [])) $ split ! $
+        move ! (30 ∷ 31 ∷ 2 ∷ 0 ∷ []) $ group ! 4 $ use1 W (raw (Callee 𝓤 H A mem run .pre (to (x .i)))) (goes (x .i) g gl gu above) $
         calls-met ! (fmOf 𝓤 H (W .laws) 𝓣) callee.ended (callee.clauses 𝓤 H A mem run) known (to (x .i)) (λ r. r ≡ p (x .i)) (λ r ws. id⊢ 𝓤 _)
         (and-then ! (load ! (from ! (stop !)) (look ! 5 refl)) (and-then ! (load ! (from ! (stop !)) (look ! 23 refl))
         (and-then ! (load ! (from ! (stop !)) (look ! 21 refl)) (and-then ! (load ! (from ! (stop !)) (look ! 19 refl))
         (and-then ! (load ! (from ! (stop !)) (look ! 17 refl)) (no-more !)))))) (λ u r e.
-        facts ! bool (Is bool) (shows 𝓤 H A bool) r (u ∷ []) (λ is. use1 W (‵ (flft κ₁ q₁) ⊛ (‵ (flft κ₂ q₂) ⊛ ‵ ftrue)) (id⊢ 𝓤 _) $ split ! $ move ! (1 ∷ []) $
-        split ! $ move ! (1 ∷ []) $ drop ! $
+        facts ! bool (Is bool) (shows 𝓤 H A bool) r (u ∷ []) (λ is.
+        use1 W (‵ (flft κ₁ q₁) ⊛ (‵ (flft κ₂ q₂) ⊛ ‵ ftrue)) (id⊢ 𝓤 _) $
+        split ! $ move ! (1 ∷ []) $ split ! $ move ! (1 ∷ []) $ drop ! $
         -- [the tokens of seniors and juniors; what seniors owns; what juniors owns; the token of rows; what rows owns; _11; …; _0; …]
         land ! (from ! (stop !)) (init ! 10 refl (bool-lawful 𝓤 H A W .typed r _ is .0)) $
         rewrite ! 10 (λ (w : Val). ‵ (fat fullShare tyBool l₉ 0 w)) (ap only is ∙ ap vbool e) refl $
@@ -272,7 +282,8 @@ module _ {M : Type 1} (𝓤 : URA M) (H : Heap 𝓤) (A : Atoms 𝓤) (W : Given
     loop-and-rest = first ! $ blocks ! $ loops ! 𝓣 (fewer Reach p (length ys)) (fewer-wf Reach p (length ys)) At turn begin
 
   -- the MIR up to the loop
-  walk : (𝓣 : Tables 𝓤 H) → Triple 𝓤 (𝓣 .C #callee) (Callee 𝓤 H A mem run) → Room T.the-row (length ys) → Is L.the-row sought (vl ∷ []) → used < 2 ^ 64
+  walk : (𝓣 : Tables 𝓤 H) → Triple 𝓤 (𝓣 .C #callee) (Callee 𝓤 H A mem run)
+      → Room T.the-row (length ys) → Is L.the-row sought (vl ∷ []) → used < 2 ^ 64
       → Room u64 (length (now j)) → Room u64 (length (now up)) → Above (now j) (now up)
       → ent 𝓤 (onEntry 𝓤 H A this.signature (κ₀, (κ₁, (κ₂, tt))) (q₀, (q₁, (q₂, tt))) (s, (sought, (used, (j, (up, tt))))) at)
       (WpFn 𝓤 H (𝓣 .C) (𝓣 .Λ) code.function (v ∷ vl ∷ vint w64 used ∷ vj ∷ vu ∷ []) Post)
@@ -287,11 +298,11 @@ module _ {M : Type 1} (𝓤 : URA M) (H : Heap 𝓤) (A : Atoms 𝓤) (W : Given
       pass1 ! (init ! 18 refl (EL.lawful L.the-type L′.the-laws 𝓤 H A W tt .typed sought _ gl .0)) $ pass1 ! (init ! 16 refl (tt, record { fits = gu })) $
       pass1 ! (init ! 14 refl (tt, (tt, (record { fits = gj .0 }, tt)))) $ pass1 ! (init ! 12 refl (tt, (tt, (record { fits = gp .0 }, tt)))) $ pass0 ! $
       assigns ! (of-opd ! (lit ! tt)) (from ! (stop !)) (init ! 10 refl (tt, record { fits = lit< tt })) $
-      move ! (24 ∷ []) $ split ! $ move ! (1 ∷ []) $ split ! $ move ! (1 ∷ []) $ split ! $ move ! (28 ∷ []) $ fsplit ! $ move ! (1 ∷ []) $ fsplit ! $ drop ! $
-      fsplit ! $ drop ! $ fsplit ! $ move ! (1 ∷ []) $ fsplit ! $
+      move ! (24 ∷ []) $ split ! $ move ! (1 ∷ []) $ split ! $ move ! (1 ∷ []) $ split ! $
+      move ! (28 ∷ []) $ fsplit ! $ move ! (1 ∷ []) $ fsplit ! $ drop ! $ fsplit ! $ drop ! $ fsplit ! $ move ! (1 ∷ []) $ fsplit ! $
       -- [what seniors owns; true; what juniors owns; what rows owns; the token of seniors; true; the tokens of juniors and rows; _11; …; _0; …]
-      keep ! (8 ∷ 9 ∷ 10 ∷ 11 ∷ 12 ∷ 13 ∷ 14 ∷ 15 ∷ 16 ∷ 17 ∷ 18 ∷ 19 ∷ 20 ∷ 21 ∷ 22 ∷ 23 ∷ 24 ∷ 25 ∷ 26 ∷ 27 ∷ 28 ∷ 29 ∷ 30 ∷ 31
-      ∷ 7 ∷ 6 ∷ 4 ∷ 3 ∷ 2 ∷ 0 ∷ []) $
+      keep ! (8 ∷ 9 ∷ 10 ∷ 11 ∷ 12 ∷ 13 ∷ 14 ∷ 15 ∷ 16 ∷ 17 ∷ 18 ∷ 19 ∷ 20 ∷ 21 ∷ 22 ∷ 23
+      ∷ 24 ∷ 25 ∷ 26 ∷ 27 ∷ 28 ∷ 29 ∷ 30 ∷ 31 ∷ 7 ∷ 6 ∷ 4 ∷ 3 ∷ 2 ∷ 0 ∷ []) $
       loop-and-rest 𝓣 known gn gl gu gj gp above l₀ l₁ l₂ l₃ l₄ l₅ l₆ l₇ l₈ l₉ l₁₀ l₁₁))))))))))))
 
 pub failing-row-spec : {M : Type 1} → stated.statement M
@@ -299,7 +310,8 @@ unfolding code.routine tablesOf
 failing-row-spec 𝓤 H 𝓜 𝓖 𝓡 =
     entered 𝓤 H (tripleOf 𝓤 H (𝓖 .A) this.signature (this.spec 𝓤 H (𝓖 .A) (𝓜 .mem) (𝓡 .run)))
     (tables 𝓤 H 𝓜 𝓡 code.env .C) (tables 𝓤 H 𝓜 𝓡 code.env .Λ) #this code.function (code.unfolded 𝓤 H 𝓜 𝓡)
-    (meets 𝓤 H (𝓖 .A) (givenOf 𝓤 H 𝓜 𝓖) this.ended (this.clauses 𝓤 H (𝓖 .A) (𝓜 .mem) (𝓡 .run)) (tablesOf 𝓤 H 𝓜 (tables 𝓤 H 𝓜 𝓡 code.env)) code.function
+    (meets 𝓤 H (𝓖 .A) (givenOf 𝓤 H 𝓜 𝓖) this.ended (this.clauses 𝓤 H (𝓖 .A) (𝓜 .mem) (𝓡 .run))
+    (tablesOf 𝓤 H 𝓜 (tables 𝓤 H 𝓜 𝓡 code.env)) code.function
     (λ κs x f. refl, (λ κs x f. refl, (λ κs x f. refl, (λ κs x f. refl, (λ κs x f. refl, tt)))))
     (λ κs. (slice-vals, (EL.vals L.the-type L′.the-laws, (uint-vals w64, (slice-vals, (slice-vals, tt))))))
     (λ κs. (
@@ -310,7 +322,9 @@ failing-row-spec 𝓤 H 𝓜 𝓖 𝓡 =
       ),
     ))
     (λ κs qs bounds a g are. needs 𝓤 _ _
-    (walk 𝓤 H (𝓖 .A) (givenOf 𝓤 H 𝓜 𝓖) (𝓜 .mem) (𝓡 .run) (κs .0) (κs .1 .0) (κs .1 .1 .0) (qs .0) (qs .1 .0) (qs .1 .1 .0) (a .0 .ptr .0) (a .0 .ptr .1)
-    (a .0 .name) (a .0 .now) (a .1 .0) (a .1 .1 .0) (a .1 .1 .1 .0) (a .1 .1 .1 .1 .0) (tablesOf 𝓤 H 𝓜 (tables 𝓤 H 𝓜 𝓡 code.env))
-    (cited 𝓤 H (Callee 𝓤 H (𝓖 .A) (𝓜 .mem) (𝓡 .run)) 𝓜 𝓡 code.env #callee callee-def.routine code.calls-ranges·row-fails (callee-thm.met 𝓤 H 𝓜 𝓖 𝓡))
+    (walk 𝓤 H (𝓖 .A) (givenOf 𝓤 H 𝓜 𝓖) (𝓜 .mem) (𝓡 .run) (κs .0) (κs .1 .0) (κs .1 .1 .0) (qs .0) (qs .1 .0) (qs .1 .1 .0)
+    (a .0 .ptr .0) (a .0 .ptr .1) (a .0 .name) (a .0 .now) (a .1 .0) (a .1 .1 .0) (a .1 .1 .1 .0) (a .1 .1 .1 .1 .0)
+    (tablesOf 𝓤 H 𝓜 (tables 𝓤 H 𝓜 𝓡 code.env))
+    (cited 𝓤 H (Callee 𝓤 H (𝓖 .A) (𝓜 .mem) (𝓡 .run)) 𝓜 𝓡 code.env #callee callee-def.routine code.calls-ranges·row-fails
+    (callee-thm.met 𝓤 H 𝓜 𝓖 𝓡))
     (are .0 .0 .1) (are .1 .0) (are .1 .1 .0 .1) (are .1 .1 .1 .0 .0 .1) (are .1 .1 .1 .1 .0 .0 .1))))

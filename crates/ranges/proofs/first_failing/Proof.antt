@@ -19,7 +19,7 @@ use prog.Wp.{Heap, Calls, Loops, WpFn}
 use ghost.Atoms.{Atoms}
 use contract.Monad.{Fun, factI}
 use contract.Running.{givenOf, tables, tablesOf}
-use types.Kit.{Given, ‵, raw, _⊛_, ⋆, some, later, _$_, _∵_, !, qed, by, move, keep}
+use types.Kit.{Given, Item, ‵, raw, _⊛_, ⋆, some, later, _$_, _∵_, !, qed, by, move, keep}
 use types.Kit.{drop, group, use1, use2, split, join, pick, rewrite, fsplit, fjoin, frame, await, done}
 use types.Part.{agg}
 use types.Run.{look, init, forget, stop, from, load, of-opd, addr, and-then, no-more, assigns}
@@ -75,8 +75,8 @@ slice = sliceTy (tyRef erased imm (pointee (T.the-row .written)))
 abbrev Callee : {M : Type 1} (𝓤 : URA M) (H : Heap 𝓤) (A : Atoms 𝓤) (mem : Memory → SProp 𝓤) (run : Routine → Fun 𝓤) → Contract 𝓤
 Callee 𝓤 H A mem run = tripleOf 𝓤 H A callee.signature (callee.spec 𝓤 H A mem run)
 
-module _ {M : Type 1} (𝓤 : URA M) (H : Heap 𝓤) (A : Atoms 𝓤) (W : Given 𝓤 H A) (mem : Memory → SProp 𝓤) (run : Routine → Fun 𝓤) (κ κ′ : Lft) (q q′ : Share)
-    (rows : List ModifyRow) (n : ℕ) (sought : Look) (used : ℕ) (j up : RefT (List ℕ)) (m : Val) where
+module _ {M : Type 1} (𝓤 : URA M) (H : Heap 𝓤) (A : Atoms 𝓤) (W : Given 𝓤 H A) (mem : Memory → SProp 𝓤) (run : Routine → Fun 𝓤)
+    (κ κ′ : Lft) (q q′ : Share) (rows : List ModifyRow) (n : ℕ) (sought : Look) (used : ℕ) (j up : RefT (List ℕ)) (m : Val) where
   abbrev vl : Val
   vl = EL.val L.the-type L′.the-laws sought
 
@@ -94,6 +94,10 @@ module _ {M : Type 1} (𝓤 : URA M) (H : Heap 𝓤) (A : Atoms 𝓤) (W : Given
 
   abbrev Post : Val → SProp 𝓤
   Post = After 𝓤 H A W this.ended (this.clauses 𝓤 H A mem run) bound
+
+  -- the tokens of the two lifetimes of the parameters
+  abbrev Tokens : Item 𝓤
+  Tokens = ‵ (flft κ q) ⊛ (‵ (flft κ′ q′) ⊛ ‵ ftrue)
 
   abbrev OwnJ : Fml
   OwnJ = ShrSlice (named 0) κ u64 .own j (vj ∷ [])
@@ -124,27 +128,31 @@ module _ {M : Type 1} (𝓤 : URA M) (H : Heap 𝓤) (A : Atoms 𝓤) (W : Given
       tt,
     )
 
+    abbrev Passed : List (Item 𝓤)
+    Passed = ‵ (flft (α ∷ []) fullShare) ∷ Tokens ∷ ‵ OwnS ∷ ‵ OwnJ ∷ ‵ OwnU ∷ []
+
     goes : Is L.the-row sought (vl ∷ []) → used < 2 ^ 64 → Above (now j) (now up)
-        → ent 𝓤 (⋆ 𝓤 H A (‵ (flft (α ∷ []) fullShare) ∷ (‵ (flft κ q) ⊛ (‵ (flft κ′ q′) ⊛ ‵ ftrue)) ∷ ‵ OwnS ∷ ‵ OwnJ ∷ ‵ OwnU ∷ []))
-        (Callee 𝓤 H A mem run .pre to)
+        → ent 𝓤 (⋆ 𝓤 H A Passed) (Callee 𝓤 H A mem run .pre to)
     goes ga gc above =
-        qed W (‵ (flft (α ∷ []) fullShare) ∷ (‵ (flft κ q) ⊛ (‵ (flft κ′ q′) ⊛ ‵ ftrue)) ∷ ‵ OwnS ∷ ‵ OwnJ ∷ ‵ OwnU ∷ []) ∵ says ! above $ join ! $ frame ! $
-        nothing ! $ move ! (3 ∷ 0 ∷ []) $ fjoin ! $ move ! (2 ∷ 0 ∷ []) $ fjoin ! $ owned ! u64 (Is u64) (uint-makes 𝓤 H A W w64) used _ (refl, gc) $ fjoin ! $
+        qed W Passed ∵ says ! above $ join ! $ frame ! $
+        nothing ! $ move ! (3 ∷ 0 ∷ []) $ fjoin ! $ move ! (2 ∷ 0 ∷ []) $ fjoin ! $
+        owned ! u64 (Is u64) (uint-makes 𝓤 H A W w64) used _ (refl, gc) $ fjoin ! $
         owned ! L.the-row (Is L.the-row) (EL.makes L.the-type L′.the-plain 𝓤 H A) sought _ ga $ fjoin ! $ move ! (1 ∷ 0 ∷ []) $ fjoin ! $ done !
 
   module _ (C : Calls 𝓤 H) (Λ : Loops 𝓤 H) (fm : FmC 𝓤 H (W .laws) C) (known : Triple 𝓤 (C #callee) (Callee 𝓤 H A mem run)) where
-    walk : Is all rows (m ∷ []) → n < 2 ^ 64 → Is L.the-row sought (vl ∷ []) → used < 2 ^ 64 → Room u64 (length (now j)) → Room u64 (length (now up))
-        → (n ≤ 64) × Above (now j) (now up)
+    walk : Is all rows (m ∷ []) → n < 2 ^ 64 → Is L.the-row sought (vl ∷ []) → used < 2 ^ 64
+        → Room u64 (length (now j)) → Room u64 (length (now up)) → (n ≤ 64) × Above (now j) (now up)
         → ent 𝓤 (onEntry 𝓤 H A this.signature (κ, (κ′, tt)) (q, (q′, tt)) (rows, (n, (sought, (used, (j, (up, tt)))))) at)
         (WpFn 𝓤 H C Λ code.function (m ∷ vint w64 n ∷ vl ∷ vint w64 used ∷ vj ∷ vu ∷ []) Post)
     walk is gn ga gc gj gp few =
-        qed W ((‵ (flft κ q) ⊛ (‵ (flft κ′ q′) ⊛ ‵ ftrue)) ∷ ‵ (owns (all ∷ usize ∷ L.the-row ∷ u64 ∷ ShrSlice (named 0) κ u64 ∷ ShrSlice (named 1) κ′ u64 ∷ [])
+        qed W (Tokens ∷ ‵ (owns (all ∷ usize ∷ L.the-row ∷ u64 ∷ ShrSlice (named 0) κ u64 ∷ ShrSlice (named 1) κ′ u64 ∷ [])
         (rows, (n, (sought, (used, (j, (up, tt)))))) at) ∷ []) ∵
         enter ! C Λ code.function (m ∷ vint w64 n ∷ vl ∷ vint w64 used ∷ vj ∷ vu ∷ []) _ $
         alloc1 ! (λ l₀. alloc1 ! (λ l₁. alloc1 ! (λ l₂. alloc1 ! (λ l₃. alloc1 ! (λ l₄.
         alloc1 ! (λ l₅. alloc1 ! (λ l₆. alloc1 ! (λ l₇. alloc1 ! (λ l₈. alloc1 ! (λ l₉. alloc0 ! $ params1 ! $
         pass1 ! (init ! 16 refl typed) $ pass1 ! (init ! 14 refl (tt, record { fits = gn })) $
-        pass1 ! (init ! 12 refl (EL.lawful L.the-type L′.the-laws 𝓤 H A W tt .typed sought _ ga .0)) $ pass1 ! (init ! 10 refl (tt, record { fits = gc })) $
+        pass1 ! (init ! 12 refl (EL.lawful L.the-type L′.the-laws 𝓤 H A W tt .typed sought _ ga .0)) $
+        pass1 ! (init ! 10 refl (tt, record { fits = gc })) $
         pass1 ! (init ! 8 refl (tt, (tt, (record { fits = gj .0 }, tt)))) $ pass1 ! (init ! 6 refl (tt, (tt, (record { fits = gp .0 }, tt)))) $ pass0 ! $
         -- [_9; …; _8; …; _7; …; seniors; …; juniors; …; used; …; look; …; n; …; rows; …; _0; …; the token; what the parameters own]
         assigns ! (of-opd ! (load ! (from ! (stop !)) (look ! 16 refl))) (from ! (stop !)) (init ! 4 refl typed) $
@@ -152,7 +160,8 @@ module _ {M : Type 1} (𝓤 : URA M) (H : Heap 𝓤) (A : Atoms 𝓤) (W : Given
         assigns ! (agg ! (and-then ! (load ! (from ! (stop !)) (look ! 2 refl)) (and-then ! (load ! (from ! (stop !)) (look ! 14 refl)) (no-more !))))
         (from ! (stop !)) (init ! 0 refl (tt, (tt, (record { fits = gn }, tt)))) $
         rewrite ! 0 (λ (c : ℕ). ‵ (fat fullShare slice l₉ 0 (sliceVal (l₇, 0) c))) (sym count) refl $
-        move ! (21 ∷ []) $ fsplit ! $ move ! (1 ∷ []) $ fsplit ! $ drop ! $ fsplit ! $ drop ! $ fsplit ! $ drop ! $ fsplit ! $ move ! (1 ∷ []) $ fsplit ! $
+        move ! (21 ∷ []) $ fsplit ! $ move ! (1 ∷ []) $ fsplit ! $
+        drop ! $ fsplit ! $ drop ! $ fsplit ! $ drop ! $ fsplit ! $ move ! (1 ∷ []) $ fsplit ! $
         -- [what seniors owns; true; what juniors owns; what rows owns; _9; …; _8; …; _7; …]: the local _7 is lent
         lft-new ! tt (λ α. move ! (9 ∷ 4 ∷ []) $
         use2 W (later (some (λ (γ : GName). ‵ (OwnS α γ l₇) ⊛ ‵ (Rest 𝓤 H A W T.the-row (α ∷ []) 64 n rows l₇))))
@@ -161,17 +170,21 @@ module _ {M : Type 1} (𝓤 : URA M) (H : Heap 𝓤) (A : Atoms 𝓤) (W : Given
         -- [what the slice owns; the way back; the new token; what seniors owns; true; what juniors owns; _9; …; _8; …; that _7 dies; seniors; …;
         -- juniors; …; used; …; look; …; n; …; rows; …; _0; …; the token]
         move ! (2 ∷ 25 ∷ 0 ∷ 5 ∷ 3 ∷ []) $ group ! 5 $ use1 W (raw (Callee 𝓤 H A mem run .pre (to α γ l₇))) (goes α γ l₇ ga gc (few .1)) $
-        -- [what the callee asks; the way back; true; _9; …; _8; …; that _7 dies; seniors; …; juniors; …; used; …; look; …; n; …; rows; …; _0; …]
+        -- [what the callee asks; the way back; true; _9; …; _8; …; that _7 dies; seniors; …; juniors; …; used; …;
+        -- look; …; n; …; rows; …; _0; …]
         calls-met ! fm callee.ended (callee.clauses 𝓤 H A mem run) known (to α γ l₇)
         (λ r. r ≡ firstFailing sought used (senior (now j)) (length (take n rows)) (take n rows)) (λ r ws. id⊢ 𝓤 _)
         (and-then ! (load ! (from ! (stop !)) (look ! 3 refl)) (and-then ! (load ! (from ! (stop !)) (look ! 14 refl))
         (and-then ! (load ! (from ! (stop !)) (look ! 12 refl)) (and-then ! (load ! (from ! (stop !)) (look ! 10 refl))
         (and-then ! (load ! (from ! (stop !)) (look ! 8 refl)) (no-more !)))))) (λ u r e.
-        peeks ! usize (Is usize) (shows 𝓤 H A usize) r (u ∷ []) (λ ok. land ! (from ! (stop !)) (init ! 21 refl (uint-lawful 𝓤 H A W w64 .typed r _ ok .0)) $
+        peeks ! usize (Is usize) (shows 𝓤 H A usize) r (u ∷ []) (λ ok.
+        land ! (from ! (stop !)) (init ! 21 refl (uint-lawful 𝓤 H A W w64 .typed r _ ok .0)) $
         -- [what the result owns; the tokens; the way back; true; …]: the lifetime is ended, and the local is room again
-        move ! (1 ∷ []) $ use1 W (‵ (flft (α ∷ []) fullShare) ⊛ (‵ (flft κ q) ⊛ (‵ (flft κ′ q′) ⊛ ‵ ftrue))) (id⊢ 𝓤 _) $ split ! $ lft-end ! tt $
-        move ! (0 ∷ 3 ∷ []) $ use2 W (later (‵ (froom (tyArray T′.mir 64) l₇ 0))) (array-back 𝓤 H A W T.the-row (α ∷ []) 64 n rows l₇ long) $ await ! tt $
-        -- [_7; the tokens; what the result owns; true; _9; …; _8; …; that _7 dies; seniors; …; juniors; …; used; …; look; …; n; …; rows; …; _0; …]
+        move ! (1 ∷ []) $ use1 W (‵ (flft (α ∷ []) fullShare) ⊛ Tokens) (id⊢ 𝓤 _) $ split ! $ lft-end ! tt $
+        move ! (0 ∷ 3 ∷ []) $ use2 W (later (‵ (froom (tyArray T′.mir 64) l₇ 0)))
+        (array-back 𝓤 H A W T.the-row (α ∷ []) 64 n rows l₇ long) $ await ! tt $
+        -- [_7; the tokens; what the result owns; true; _9; …; _8; …; that _7 dies; seniors; …; juniors; …; used; …;
+        -- look; …; n; …; rows; …; _0; …]
         returns ! (look ! 21 refl) $ forget ! 4 refl $ forget ! 6 refl $ forget ! 9 refl $ forget ! 11 refl $ forget ! 13 refl $ forget ! 15 refl $
         forget ! 17 refl $ forget ! 19 refl $ forget ! 21 refl $
         move ! (21 ∷ 22 ∷ []) $ free1 ! $ move ! (19 ∷ 20 ∷ []) $ free1 ! $ move ! (17 ∷ 18 ∷ []) $ free1 ! $ move ! (15 ∷ 16 ∷ []) $ free1 ! $
@@ -194,9 +207,13 @@ unfolding code.routine tablesOf
 first-failing-spec 𝓤 H 𝓜 𝓖 𝓡 =
     entered 𝓤 H (tripleOf 𝓤 H (𝓖 .A) this.signature (this.spec 𝓤 H (𝓖 .A) (𝓜 .mem) (𝓡 .run)))
     (tables 𝓤 H 𝓜 𝓡 code.env .C) (tables 𝓤 H 𝓜 𝓡 code.env .Λ) #this code.function (code.unfolded 𝓤 H 𝓜 𝓡)
-    (meets 𝓤 H (𝓖 .A) (givenOf 𝓤 H 𝓜 𝓖) this.ended (this.clauses 𝓤 H (𝓖 .A) (𝓜 .mem) (𝓡 .run)) (tablesOf 𝓤 H 𝓜 (tables 𝓤 H 𝓜 𝓡 code.env)) code.function
+    (meets 𝓤 H (𝓖 .A) (givenOf 𝓤 H 𝓜 𝓖) this.ended (this.clauses 𝓤 H (𝓖 .A) (𝓜 .mem) (𝓡 .run))
+    (tablesOf 𝓤 H 𝓜 (tables 𝓤 H 𝓜 𝓡 code.env)) code.function
     (λ κs x f. refl, (λ κs x f. refl, (λ κs x f. refl, (λ κs x f. refl, (λ κs x f. refl, (λ κs x f. refl, tt))))))
-    (λ κs. (array-vals (LL.vals T.the-type T′.the-laws), (uint-vals w64, (EL.vals L.the-type L′.the-laws, (uint-vals w64, (slice-vals, (slice-vals, tt)))))))
+    (λ κs. (
+      array-vals (LL.vals T.the-type T′.the-laws),
+      (uint-vals w64, (EL.vals L.the-type L′.the-laws, (uint-vals w64, (slice-vals, (slice-vals, tt))))),
+    ))
     (λ κs. (
       array-tells T.the-row (LL.vals T.the-type T′.the-laws) (LL.tells T.the-type T′.the-laws) 64,
       (
@@ -211,8 +228,10 @@ first-failing-spec 𝓤 H 𝓜 𝓖 𝓡 =
       ),
     ))
     (λ κs qs bounds a g are. needs 𝓤 _ _
-    (walk 𝓤 H (𝓖 .A) (givenOf 𝓤 H 𝓜 𝓖) (𝓜 .mem) (𝓡 .run) (κs .0) (κs .1 .0) (qs .0) (qs .1 .0) (a .0) (a .1 .0) (a .1 .1 .0) (a .1 .1 .1 .0) (a .1 .1 .1 .1 .0)
-    (a .1 .1 .1 .1 .1 .0) _ (tables 𝓤 H 𝓜 𝓡 code.env .C) (tables 𝓤 H 𝓜 𝓡 code.env .Λ)
+    (walk 𝓤 H (𝓖 .A) (givenOf 𝓤 H 𝓜 𝓖) (𝓜 .mem) (𝓡 .run) (κs .0) (κs .1 .0) (qs .0) (qs .1 .0)
+    (a .0) (a .1 .0) (a .1 .1 .0) (a .1 .1 .1 .0) (a .1 .1 .1 .1 .0) (a .1 .1 .1 .1 .1 .0) _
+    (tables 𝓤 H 𝓜 𝓡 code.env .C) (tables 𝓤 H 𝓜 𝓡 code.env .Λ)
     (fmOf 𝓤 H (givenOf 𝓤 H 𝓜 𝓖 .laws) (tablesOf 𝓤 H 𝓜 (tables 𝓤 H 𝓜 𝓡 code.env)))
-    (cited 𝓤 H (Callee 𝓤 H (𝓖 .A) (𝓜 .mem) (𝓡 .run)) 𝓜 𝓡 code.env #callee callee-def.routine code.calls-ranges·failing-row (callee-thm.met 𝓤 H 𝓜 𝓖 𝓡))
+    (cited 𝓤 H (Callee 𝓤 H (𝓖 .A) (𝓜 .mem) (𝓡 .run)) 𝓜 𝓡 code.env #callee callee-def.routine code.calls-ranges·failing-row
+    (callee-thm.met 𝓤 H 𝓜 𝓖 𝓡))
     (are .0) (are .1 .0 .1) (are .1 .1 .0) (are .1 .1 .1 .0 .1) (are .1 .1 .1 .1 .0 .0 .1) (are .1 .1 .1 .1 .1 .0 .0 .1))))
