@@ -7,11 +7,11 @@
  * answers any bytes and any numbers. Nothing is kept between calls, nothing is allocated, and
  * no input is written to.
  *
- * The caller owes two things, which C cannot check:
+ * The caller owes three things, which C cannot check:
  *   - each pointer is valid for the length beside it. A length of 0 still takes a pointer that
  *     is not null;
- *   - `out` does not overlap `policy`.
- * A call needs the stack that AESTILUMNE_STACK_.. says, whatever the file holds.
+ *   - `out` does not overlap `policy`;
+ *   - there is as much stack as AESTILUMNE_STACK_CHECK and its like say, whatever the file holds.
  *
  * An answer is ONE number that holds four. It is never a truth value: take it apart with
  * aestilumne_apart, or ask aestilumne_may.
@@ -87,10 +87,10 @@ enum aestilumne_table_number {
 #define AESTILUMNE_FILE_ENOUGH 10375    /* bytes of a policy file */
 #define AESTILUMNE_LISTING_ENOUGH 37056 /* bytes of a listing */
 
-/* Bytes of stack that a call takes at most, of good files and of damaged ones: upper bounds,
- * derived from the archive for x86-64, in which the C library's memcpy, memmove and memset
- * count with 1,024 bytes. A thread needs what its own functions take beside it, and what the
- * C library keeps on a thread's stack. */
+/* Bytes of stack that a call takes at most, with good files and with damaged ones: upper bounds
+ * for x86-64, derived from the archive, in which the C library's memcpy, memmove and memset count
+ * with 1,024 bytes. A thread needs beside it what its own functions take and what the C library
+ * keeps on a thread's stack. */
 #define AESTILUMNE_STACK_CHECK 44032
 #define AESTILUMNE_STACK_QUESTION 46080
 #define AESTILUMNE_STACK_TABLE 44032

@@ -180,7 +180,7 @@ fn turned(site: Site, ground: Ground) -> Order
     }
 }
 
-// Number 9: would some range be unsound in the order after? Its seniors stand in the same order, turned.
+// Number 9: would some range be unsound in the order after? The rows of `above` are the seniors after.
 fn is_spoilt(site: Site, ground: Ground, after: Order, above: Order) -> bool
     requires { ⌜ (site .modify .count ≤ 64) × Grounded site ground × Above (after .juniors) (above .juniors) ⌝ }
     ensures { λ r. ⌜ r ≡ spoils site after ⌝ }
