@@ -478,7 +478,7 @@ int main(int argc, char **argv)
         printf("FAILED: no memory\n0 passed, 1 failed\n");
         return 1;
     }
-    lent_report_touching();
+    lent_report_touching("FAILED: a call touched memory that was not lent\n0 passed, 1 failed\n");
     run_known(&t);
     run_requests(&t, argument(argc, argv, first + 1, 20000));
     run_listings(&t, argument(argc, argv, first + 2, 1000));

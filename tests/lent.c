@@ -3,6 +3,7 @@
 #include "lent.h"
 
 #include <signal.h>
+#include <string.h>
 #include <sys/mman.h>
 #include <unistd.h>
 
@@ -33,18 +34,28 @@ size_t lent_behind(const struct lent *l)
     return l->guarded ? 0 : MARGIN;
 }
 
+static const char *last_words;
+
 static void touched(int signal)
 {
-    static const char message[] = "FAILED: a call touched memory that was not lent\n"
-                                  "0 passed, 1 failed\n";
-    ssize_t ignored = write(STDOUT_FILENO, message, sizeof message - 1);
+    ssize_t ignored = write(STDOUT_FILENO, last_words, strlen(last_words));
     (void)ignored;
     (void)signal;
     _exit(1);
 }
 
-void lent_report_touching(void)
+/* The handler has a stack of its own: one that ran out would be of no use to it. */
+void lent_report_touching(const char *message)
 {
-    signal(SIGSEGV, touched);
-    signal(SIGBUS, touched);
+    static uint8_t own[1 << 16];
+    stack_t stack = {0};
+    struct sigaction action = {0};
+    last_words = message;
+    stack.ss_sp = own;
+    stack.ss_size = sizeof own;
+    sigaltstack(&stack, NULL);
+    action.sa_handler = touched;
+    action.sa_flags = SA_ONSTACK;
+    sigaction(SIGSEGV, &action, NULL);
+    sigaction(SIGBUS, &action, NULL);
 }

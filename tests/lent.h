@@ -28,7 +28,7 @@ void lent_place(struct lent *l, size_t n, unsigned shift);
 /* How many bytes behind the buffer may be looked at: MARGIN, or none if guarded. */
 size_t lent_behind(const struct lent *l);
 
-/* A run that touches such a page, or none, ends with a message and status 1. */
-void lent_report_touching(void);
+/* A run that touches such a page, or none, ends with this message and status 1. */
+void lent_report_touching(const char *message);
 
 #endif

@@ -5,7 +5,6 @@
  */
 #define _DEFAULT_SOURCE /* for MAP_ANONYMOUS and the contexts */
 
-#include <signal.h>
 #include <stdio.h>
 #include <string.h>
 #include <sys/mman.h>
@@ -14,6 +13,7 @@
 
 #include "../include/aestilumne.h"
 #include "known.h"
+#include "lent.h"
 
 enum entry { CHECK, REQUEST, LISTING, QUESTION, TABLE, ENTRIES };
 
@@ -37,7 +37,7 @@ static struct {
     uint8_t *bottom;
     size_t size;
     ucontext_t back, there;
-} lent;
+} own;
 
 static bool open_stack(size_t size)
 {
@@ -46,9 +46,9 @@ static bool open_stack(size_t size)
                            MAP_PRIVATE | MAP_ANONYMOUS, -1, 0);
     if (memory == MAP_FAILED || mprotect(memory, page, PROT_NONE) != 0)
         return false;
-    lent.bottom = memory + page;
-    lent.size = size;
-    memset(lent.bottom, PAINT, size);
+    own.bottom = memory + page;
+    own.size = size;
+    memset(own.bottom, PAINT, size);
     return true;
 }
 
@@ -56,9 +56,9 @@ static bool open_stack(size_t size)
 static size_t used(void)
 {
     size_t untouched = 0;
-    while (untouched < lent.size && lent.bottom[untouched] == PAINT)
+    while (untouched < own.size && own.bottom[untouched] == PAINT)
         untouched++;
-    return lent.size - untouched;
+    return own.size - untouched;
 }
 
 /* ---- A call ---- */
@@ -100,12 +100,12 @@ static void on_the_stack(uint64_t kind, uint64_t a, uint64_t b)
     call.kind = kind;
     call.a = a;
     call.b = b;
-    getcontext(&lent.there);
-    lent.there.uc_stack.ss_sp = lent.bottom;
-    lent.there.uc_stack.ss_size = lent.size;
-    lent.there.uc_link = &lent.back;
-    makecontext(&lent.there, make_call, 0);
-    swapcontext(&lent.back, &lent.there);
+    getcontext(&own.there);
+    own.there.uc_stack.ss_sp = own.bottom;
+    own.there.uc_stack.ss_size = own.size;
+    own.there.uc_link = &own.back;
+    makecontext(&own.there, make_call, 0);
+    swapcontext(&own.back, &own.there);
     calls++;
     refused += aestilumne_apart(call.answer).outcome >= AESTILUMNE_ENDS;
 }
@@ -163,36 +163,12 @@ static void ask_of_files(enum entry entry)
     damage(entry, file, n, entry == LISTING ? 500 : 50);
 }
 
-static void touched(int signal)
-{
-    static const char message[] = "FAILED: a call needs more stack than the header says\n"
-                                  "0 passed, 1 failed\n";
-    ssize_t ignored = write(STDOUT_FILENO, message, sizeof message - 1);
-    (void)ignored;
-    (void)signal;
-    _exit(1);
-}
-
-/* The handler has a stack of its own: the one that ran out is of no use to it. */
-static void report_touching(void)
-{
-    static uint8_t own[1 << 16];
-    stack_t stack = {0};
-    struct sigaction action = {0};
-    stack.ss_sp = own;
-    stack.ss_size = sizeof own;
-    sigaltstack(&stack, NULL);
-    action.sa_handler = touched;
-    action.sa_flags = SA_ONSTACK;
-    sigaction(SIGSEGV, &action, NULL);
-    sigaction(SIGBUS, &action, NULL);
-}
-
 int main(void)
 {
     unsigned passed = 0, failed = 0;
     setvbuf(stdout, NULL, _IOLBF, BUFSIZ);
-    report_touching();
+    lent_report_touching("FAILED: a call needs more stack than the header says\n"
+                         "0 passed, 1 failed\n");
     for (enum entry entry = CHECK; entry < ENTRIES; entry++) {
         if (!open_stack(entries[entry].stack + CALLER)) {
             printf("no memory for a stack\n0 passed, 1 failed\n");
