@@ -70,8 +70,10 @@ pub data QuestionEnds (s : List ℕ) (user permission : ℕ) (r : ℕ) : Type 0 
   bad-file : {c p : ℕ} → readPolicy s .how ≡ Refused c p → apart r ≡ refusal c p → QuestionEnds s user permission r
   unknown : readPolicy s .how ≡ Accepted → question (readPolicy s .policy) user permission ≡ reply.Unknown
       → apart r ≡ refusal 2 0 → QuestionEnds s user permission r
-  yes : readPolicy s .how ≡ Accepted → question (readPolicy s .policy) user permission ≡ reply.Yes → apart r ≡ fields 0 1 0 0 → QuestionEnds s user permission r
-  no : readPolicy s .how ≡ Accepted → question (readPolicy s .policy) user permission ≡ reply.No → apart r ≡ fields 0 0 0 0 → QuestionEnds s user permission r
+  yes : readPolicy s .how ≡ Accepted → question (readPolicy s .policy) user permission ≡ reply.Yes → apart r ≡ fields 0 1 0 0
+      → QuestionEnds s user permission r
+  no : readPolicy s .how ≡ Accepted → question (readPolicy s .policy) user permission ≡ reply.No → apart r ≡ fields 0 0 0 0
+      → QuestionEnds s user permission r
 
 pub data TableEnds (s : List ℕ) (k : ℕ) (r : ℕ) : Type 0 where
   no-table : isTable k ≡ false → apart r ≡ refusal 1 0 → TableEnds s k r
@@ -164,7 +166,8 @@ module _ (s : List ℕ) where
       list-short k l =
           let y = lt-leb _ _ k in
           let z = lt-ltb _ _ l in
-          too-short q refl k l (answered _ (fits (omega arith) (omega arith) (omega arith) (omega arith)) (w .answer) (rw (q, y, z))) (w .bytes ∙ rw (q, y, z))
+          too-short q refl k l (answered _ (fits (omega arith) (omega arith) (omega arith) (omega arith)) (w .answer) (rw (q, y, z)))
+          (w .bytes ∙ rw (q, y, z))
 
       list-done : officer < p .people .users .count → 3 * entryCount p officer ≤ length o → ListEnds s officer o r a
       unfolding listingFields listingBytes listed filled listedOutcome listedCount

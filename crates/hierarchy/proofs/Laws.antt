@@ -106,15 +106,16 @@ unfolding full newRole
 not-full s e = new-below _ _ refl (eqb-false _ _ e) _ refl
 
 -- number 9 of kind 5: n is the number and o the order after that the code finds
-pub spoils-created : (s : Site) (a b n : ℕ) (o : Order) → n ≡ lowestFree 64 (s .roles .used) → o ≡ create (s .roles) n a b → (r : Bool) → r ≡ spoils s o
-    → spoils s (create (s .roles) (newRole s) a b) ≡ r
+pub spoils-created : (s : Site) (a b n : ℕ) (o : Order) → n ≡ lowestFree 64 (s .roles .used) → o ≡ create (s .roles) n a b
+    → (r : Bool) → r ≡ spoils s o → spoils s (create (s .roles) (newRole s) a b) ≡ r
 unfolding newRole
 spoils-created s a b n o e q r h = ap (λ (m : ℕ). spoils s (create (s .roles) m a b)) (sym e) ∙ ap (spoils s) (sym q) ∙ sym h
 
 -- ---- what is known before a change
 
 -- what the check after a change asks for, where every range is known to be sound
-pub sound-before : (s : Site) (g : Ground) (after : Order) (upper : List ℕ) → s .modify .count ≤ 64 → Grounded s g → Above (after .juniors) upper → g .sound ≡ true
+pub sound-before : (s : Site) (g : Ground) (after : Order) (upper : List ℕ) → s .modify .count ≤ 64 → Grounded s g
+    → Above (after .juniors) upper → g .sound ≡ true
     → SoundBefore (s .modify .rows) (s .modify .count) (s .roles .used) (s .roles .juniors) (g .seniors) (after .juniors) upper
 sound-before s g after upper l st u e =
     record {

@@ -37,7 +37,8 @@ left-member w all rest h l n = lowest-in w rest n (left-lt w all rest h l)
 
 -- ---- `lacks_one`: the row has all juniors of each member that was taken
 -- a member is found whose juniors the row does not all have
-pub lacks-found : (js : List ℕ) (row rest b : ℕ) → Remaining (λ x. subset 64 (getD js x 0) row ≡ true) row rest → row < 2 ^ 64 → has rest b ≡ true
+pub lacks-found : (js : List ℕ) (row rest b : ℕ) → Remaining (λ x. subset 64 (getD js x 0) row ≡ true) row rest → row < 2 ^ 64
+    → has rest b ≡ true
     → subset 64 (getD js b 0) row ≡ false → true ≡ any 64 (λ x. has row x and neg (subset 64 (getD js x 0) row))
 lacks-found js row rest b h l m e =
     let t = h .within b m in

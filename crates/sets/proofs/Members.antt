@@ -43,7 +43,8 @@ below-lowest (suc w) s n l h = go (below-lowest w (s / 2)) (s % 2) (mod-lt s (ze
         ∙ sym (ap (λ (b : Bool). neg (eqb (suc m) (pick b 0 (suc (least w (λ i. has s (suc i))))))) (has-low s 0 e)))
     go ih (suc zero) k e zero =
         and-fails-r (has s zero) (has (s - 1) zero) (has-low (s - 1) 0 (omega arith))
-        ∙ sym (and-fails-r (has s zero) (neg (eqb zero (least (suc w) (has s)))) (ap (λ (b : Bool). neg (eqb zero (pick b 0 (suc (least w (λ i. has s (suc i))))))) (has-low s 1 e)))
+        ∙ sym (and-fails-r (has s zero) (neg (eqb zero (least (suc w) (has s))))
+        (ap (λ (b : Bool). neg (eqb zero (pick b 0 (suc (least w (λ i. has s (suc i))))))) (has-low s 1 e)))
     go ih (suc zero) k e (suc m) =
         ap₂ _and_ (has-half s (s / 2) m refl) (has-half (s - 1) (s / 2) m (omega arith)) ∙ and-same (has (s / 2) m)
         ∙ ap₂ _and_ (sym (has-half s (s / 2) m refl))
@@ -65,7 +66,7 @@ lowest-below w s l h =
 pub lowest-in : (w s : ℕ) → 0 < s → s < 2 ^ w → has s (lowest w s) ≡ true
 unfolding lowest
 lowest-in w s l h =
-    least-at w (has s) (⊎-elim (λ k. k) (λ k. absurd (omega (arith, none-is-empty w s h (λ n m. least-below w (has s) n (omega arith))))) (lt-or-le (least w (has s)) w))
+    least-at w (has s) (lowest-below w s l h)
 
 -- ---- the loop: what is left are members, and P holds of each member that is not left
 pub record Remaining (P : ℕ → Type 0) (all rest : ℕ) : Type 0 where

@@ -19,14 +19,16 @@ returns c =
     let at-outcome = c .before in
     let at-has = at-outcome .before in
     let x = at-has .before .args in
-    delete-one _ _ _ _ (at-outcome .delete-outcome .ensures ∙ ap (λ (t : Bool). first (deleteRules (x .site) t false (x .a) 0)) (at-has .has .ensures)) (c .if1 .taken)
+    let tied = ap (λ (t : Bool). first (deleteRules (x .site) t false (x .a) 0)) (at-has .has .ensures) in
+    delete-one _ _ _ _ (at-outcome .delete-outcome .ensures ∙ tied) (c .if1 .taken)
 
 returns-2 : tie.Need-returns-2
 returns-2 c =
     let at-outcome = c .before in
     let at-has = at-outcome .before in
     let x = at-has .before .args in
-    delete-none _ _ _ _ (at-outcome .delete-outcome .ensures ∙ ap (λ (t : Bool). first (deleteRules (x .site) t false (x .a) 0)) (at-has .has .ensures)) (c .if1 .left)
+    let tied = ap (λ (t : Bool). first (deleteRules (x .site) t false (x .a) 0)) (at-has .has .ensures) in
+    delete-none _ _ _ _ (at-outcome .delete-outcome .ensures ∙ tied) (c .if1 .left)
 
 pub delete-row-spec : {M : Type 1} → statement M
 delete-row-spec =
