@@ -1,4 +1,6 @@
 // The answer of an entry: outcome, number, place and length in one number.
+#![tactic(auto)]
+
 ghost use Rattle.std.specs.Prelude.{◌≡◌, ◌<◌};
 ghost use Rattle.policy.specs.Good.{Good};
 ghost use Rattle.policy.specs.Outcome.{accepted};

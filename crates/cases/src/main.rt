@@ -1,4 +1,6 @@
 // Runs document 01's cases 1 to 14 and ours, and prints a line each: case, outcome, number beside it, what changed.
+#![tactic(auto)]
+
 ghost use Rattle.std.specs.Prelude.{◌<◌};
 
 mod asking;
@@ -12,7 +14,7 @@ use sets::with;
 use show::{show_answer, show_change, show_end, show_reached};
 
 // A request of a policy, by number.
-#[derive(Drop)]
+#[derive(Clone, Copy)]
 struct Case {
     label: u64,
     policy: u64,

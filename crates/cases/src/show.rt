@@ -6,7 +6,7 @@ use requests::may_give;
 use sets::{has, minus, with};
 
 // Whose set of roles it is: those in use, the juniors of a role, or the explicit roles of a user (b'u') or a permission (b'p').
-#[derive(Drop)]
+#[derive(Clone, Copy)]
 enum Whose {
     Used,
     Senior(u64),

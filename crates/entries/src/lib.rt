@@ -1,4 +1,6 @@
 // What C calls: numbers and byte slices in, one number out. Each entry reads the file it is given, and assumes nothing of any input.
+#![tactic(auto)]
+
 ghost use Rattle.requests.specs.Requests.{ask};
 ghost use Rattle.entries.specs.Entries.{CheckOf, RequestOf, ListOf, QuestionOf, TableOf};
 

@@ -1,4 +1,6 @@
 // What is looked at once a policy file is read to its end: both orders, and the can-modify rows.
+#![tactic(auto)]
+
 ghost use Rattle.std.specs.Prelude.{◌≡◌, ◌≤◌, ltb};
 ghost use Rattle.sets.specs.Tests.{◌or◌};
 ghost use Rattle.order.specs.Order.{senior};

@@ -1,4 +1,6 @@
 // Kinds 5 to 8: roles are created and deleted, edges inserted and deleted.
+#![tactic(auto)]
+
 ghost use Rattle.std.specs.Prelude.{◌≡◌, true, ◌≤◌, ◌<◌, eqb};
 ghost use Rattle.order.specs.Effects.{create as create_order, insert as insert_order, cut_edge};
 ghost use Rattle.sets.specs.Tests.{◌or◌};
@@ -23,7 +25,7 @@ use ranges::{ModifyRow, in_range, is_unsound, is_unsound_after};
 use sets::{contains, lowest_free, size, with};
 
 // What kinds 5 to 8 look at, for an officer.
-#[derive(Drop)]
+#[derive(Clone, Copy)]
 pub struct Site {
     pub known: bool,
     pub roles: Order,
@@ -130,7 +132,7 @@ fn is_unknown_pair(site: Site, a: u64, b: u64) -> bool
 }
 
 // What is known of a site before a change, so that the many changes of a listing are tested against it.
-#[derive(Drop)]
+#[derive(Clone, Copy)]
 pub struct Ground {
     // of each role its seniors
     pub seniors: [u64; 64],

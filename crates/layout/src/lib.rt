@@ -1,4 +1,6 @@
 // How many bytes a policy's file has, part by part.
+#![tactic(auto)]
+
 ghost use Rattle.std.specs.Prelude.{◌≡◌, ◌<◌, ◌≤◌, length};
 ghost use Rattle.policy.specs.Good.{Sizes};
 ghost use Rattle.layout.specs.Layout.{juniors_bytes, order_bytes, user_bytes, users_bytes, permissions_bytes, ends_bytes, row_bytes, rows_bytes, ranges_bytes, tables_bytes, policy_bytes, TableSizes};

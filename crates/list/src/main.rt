@@ -1,4 +1,6 @@
 // The listing program: reads a policy on standard input and writes for each user in turn one line an entry. A refused file writes nothing.
+#![tactic(auto)]
+
 ghost use Rattle.policy.specs.Good.{Good};
 
 mod lines;

@@ -1,4 +1,6 @@
 // The listing: every request of kinds 5 to 8 that an officer would have accepted.
+#![tactic(auto)]
+
 ghost use Rattle.std.specs.Prelude.{◌≡◌, false, ◌+◌, ◌*◌, ◌≤◌, ◌<◌, eqb, length};
 ghost use Rattle.std.proofs.lemmas.List.Edits.{sets};
 ghost use Rattle.sets.specs.Sets.{has, count, set_of};
@@ -17,7 +19,7 @@ use policy::Policy;
 use sets::{has, lowest, minus, size, with, without_lowest};
 
 // What a listing gives: the officer is unknown, the buffer too short, or the count of entries.
-#[derive(Drop)]
+#[derive(Clone, Copy)]
 pub enum Listed {
     Unknown,
     Short,

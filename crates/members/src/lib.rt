@@ -1,4 +1,6 @@
 // Kinds 1 to 4: users and permissions are put in roles and taken out of them.
+#![tactic(auto)]
+
 ghost use Rattle.std.specs.Prelude.{◌≡◌, ◌≤◌, ltb, get_or};
 ghost use Rattle.sets.specs.Tests.{◌and◌};
 ghost use Rattle.sets.specs.Sets.{has};
@@ -15,7 +17,7 @@ use ranges::in_range;
 use sets::{both, contains, subset, with, without};
 
 // What kinds 1 to 4 look at; users and permissions differ in it alone.
-#[derive(Drop)]
+#[derive(Clone, Copy)]
 pub struct View {
     pub known: bool,
     pub roles: Order,

@@ -1,10 +1,12 @@
 // A number of the policy file: groups of seven bits, lowest group first, the top bit set on all bytes but the last.
+#![tactic(auto)]
+
 ghost use Rattle.std.specs.Prelude.{◌≡◌, ◌+◌, ◌≤◌, leb, length, get_or};
 ghost use Rattle.std.proofs.lemmas.List.Edits.{sets};
 ghost use Rattle.number.specs.Number.{Before, is_long, is_over, num_at, num_bytes};
 
 // What stands at a place.
-#[derive(Drop)]
+#[derive(Clone, Copy)]
 pub enum Num {
     // The value, and the place past it.
     Value(u64, usize),
@@ -13,7 +15,7 @@ pub enum Num {
 }
 
 // The groups before a number's last byte.
-#[derive(Drop)]
+#[derive(Clone, Copy)]
 struct Groups {
     // The place of the last byte.
     last: usize,

@@ -1,4 +1,6 @@
 // A strict order, of roles or of administrative roles: which are in use, and of each the set of its strict juniors.
+#![tactic(auto)]
+
 ghost use Rattle.std.specs.Prelude.{◌≡◌, ◌<◌, ◌≤◌, eqb, length, get_or};
 ghost use Rattle.sets.specs.Tests.{◌and◌, ◌or◌, neg};
 ghost use Rattle.sets.specs.Sets.{has, any, subset, Exactly};
@@ -8,7 +10,7 @@ ghost use Rattle.order.specs.Rows.{Spread, Dropped, Raised, Above};
 
 use sets::{both, has, lowest, only, subset, union, with, without, without_lowest};
 
-#[derive(Drop)]
+#[derive(Clone, Copy)]
 pub struct Order {
     pub used: u64,
     pub juniors: [u64; 64],

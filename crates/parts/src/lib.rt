@@ -1,11 +1,13 @@
 // The part of the caller's own policy file that one table is.
+#![tactic(auto)]
+
 ghost use Rattle.std.specs.Prelude.{◌≡◌};
 ghost use Rattle.parts.specs.Parts.{start_of, end_of, refusal_of, part_at, part_bytes};
 
 use reading::{How, Places, read_file};
 
 // Where a table stands.
-#[derive(Drop)]
+#[derive(Clone, Copy)]
 pub enum Part {
     // The place of its first byte, and how many bytes it has.
     Found(usize, usize),

@@ -1,4 +1,6 @@
 // The policy: two orders, users, permissions and five tables, by value. It is changed by the builders below and by nothing else.
+#![tactic(auto)]
+
 ghost use Rattle.std.specs.Prelude.{◌≡◌, get_or};
 ghost use Rattle.order.specs.Order.{senior};
 ghost use Rattle.policy.specs.Build.{empty_order, empty_members, empty_row, empty_table, empty_ranges, empty_tables, empty_policy, put_roles, with_permissions};
@@ -11,28 +13,28 @@ use ranges::{AdminId, ModifyRow, RoleId};
 use sets::both;
 
 // The orders of roles and of administrative roles.
-#[derive(Drop)]
+#[derive(Clone, Copy)]
 pub struct Orders {
     pub roles: Order,
     pub admins: Order,
 }
 
 // Users or permissions: how many, and the explicit roles of each.
-#[derive(Drop)]
+#[derive(Clone, Copy)]
 pub struct Members {
     pub count: usize,
     pub roles: [u64; 256],
 }
 
 // The users, and the administrative set of each.
-#[derive(Drop)]
+#[derive(Clone, Copy)]
 pub struct People {
     pub users: Members,
     pub offices: [u64; 256],
 }
 
 // A row of a can-assign or a can-revoke table; a can-revoke row needs and bars nothing.
-#[derive(Drop)]
+#[derive(Clone, Copy)]
 pub struct Row {
     pub admin: AdminId,
     pub low: RoleId,
@@ -42,13 +44,13 @@ pub struct Row {
     pub barred: u64,
 }
 
-#[derive(Drop)]
+#[derive(Clone, Copy)]
 pub struct Table {
     pub count: usize,
     pub rows: [Row; 64],
 }
 
-#[derive(Drop)]
+#[derive(Clone, Copy)]
 pub struct Tables {
     pub assign: Table,
     pub revoke: Table,
@@ -57,13 +59,13 @@ pub struct Tables {
 }
 
 // The can-modify table.
-#[derive(Drop)]
+#[derive(Clone, Copy)]
 pub struct Ranges {
     pub count: usize,
     pub rows: [ModifyRow; 64],
 }
 
-#[derive(Drop)]
+#[derive(Clone, Copy)]
 pub struct Policy {
     pub orders: Orders,
     pub people: People,
@@ -73,7 +75,7 @@ pub struct Policy {
 }
 
 // What a request gives: the outcome, the number beside it, and the policy after.
-#[derive(Drop)]
+#[derive(Clone, Copy)]
 pub struct Answer {
     pub outcome: u64,
     pub number: u64,
@@ -81,7 +83,7 @@ pub struct Answer {
 }
 
 // The one part of a policy that a request touches.
-#[derive(Drop)]
+#[derive(Clone, Copy)]
 pub enum Touched {
     // the roles of a user
     User,
@@ -93,7 +95,7 @@ pub enum Touched {
 
 // What a request decides, small enough to hand on: the outcome, the number beside it, what it touches, the roles that the user or permission has
 // after, and the order of roles after.
-#[derive(Drop)]
+#[derive(Clone, Copy)]
 pub struct Change {
     pub outcome: u64,
     pub number: u64,
@@ -103,7 +105,7 @@ pub struct Change {
 }
 
 // The reply to the permission question: the user or the permission is unknown, or whether the user may exercise it.
-#[derive(Drop)]
+#[derive(Clone, Copy)]
 pub enum Reply {
     Unknown,
     Yes,

@@ -1,4 +1,6 @@
 // Authority ranges and ranges with brackets, over an order of 64 roles, and the checks of all can-modify rows.
+#![tactic(auto)]
+
 ghost use Rattle.std.specs.Prelude.{◌≡◌, Bool, true, ℕ, ◌<◌, ◌≤◌, eqb, length};
 ghost use Rattle.sets.specs.Tests.{◌and◌, ◌or◌, neg, ◌implies◌, ◌iff◌};
 ghost use Rattle.sets.specs.Sets.{has, all, any, Exactly};
@@ -13,13 +15,13 @@ ghost use Rattle.ranges.specs.After.{SameAt, SameOutside, SoundBefore, RowBefore
 use order::{Order, all_seniors, is_senior, juniors_of, seniors_of};
 use sets::{agree, both, has, lowest, minus, union, with, without_lowest};
 
-#[derive(Drop)]
+#[derive(Clone, Copy)]
 pub struct RoleId(pub u8);
 
-#[derive(Drop)]
+#[derive(Clone, Copy)]
 pub struct AdminId(pub u8);
 
-#[derive(Drop)]
+#[derive(Clone, Copy)]
 pub struct ModifyRow {
     pub admin: AdminId,
     pub low: RoleId,
@@ -27,7 +29,7 @@ pub struct ModifyRow {
 }
 
 // Which test of a can-modify row is looked for.
-#[derive(Drop)]
+#[derive(Clone, Copy)]
 pub enum Look {
     // 24: low is not junior to high
     Low,

@@ -1,4 +1,6 @@
 // The reader stands on the caller's bytes and keeps its own place in them.
+#![tactic(auto)]
+
 ghost use Rattle.std.specs.Prelude.{◌≡◌};
 ghost use Rattle.number.specs.Number.{num_at};
 ghost use Rattle.sections.specs.Sections.{order_at, order_read, people_at, people_read, members_at, members_read};
@@ -10,7 +12,7 @@ use rows::{RangesRead, TableRead, read_ranges, read_table};
 use sections::{Ended, MembersRead, OrderRead, PeopleRead, read_members, read_order, read_people};
 
 // The file's bytes, the caller's own, and the place of the next number.
-#[derive(Drop)]
+#[derive(Clone, Copy)]
 pub struct Reader<'a> {
     pub bytes: &'a [u8],
     pub at: usize,

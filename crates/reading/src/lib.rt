@@ -1,4 +1,6 @@
 // The policy file, whole: its sections in document 01's order, then what is looked at once all of it is read.
+#![tactic(auto)]
+
 ghost use Rattle.std.specs.Prelude.{◌≡◌, ◌≤◌};
 ghost use Rattle.sections.specs.Numbers.{ended_by};
 ghost use Rattle.reading.specs.File.{front, front_at, places, file_at, read_policy};
@@ -22,21 +24,21 @@ const ROLES: u64 = 0xFFFF_FFFF_FFFF_FFFF;
 const ADMINS: u64 = 0xFFFF;
 
 // What stands before the tables.
-#[derive(Drop)]
+#[derive(Clone, Copy)]
 pub struct Front {
     pub orders: Orders,
     pub people: People,
     pub permissions: Members,
 }
 
-#[derive(Drop)]
+#[derive(Clone, Copy)]
 pub struct FrontRead {
     pub how: Ended,
     pub front: Front,
 }
 
 // Where each table starts, and where the last one ends.
-#[derive(Drop)]
+#[derive(Clone, Copy)]
 pub struct Places {
     pub assign: usize,
     pub revoke: usize,
@@ -47,21 +49,21 @@ pub struct Places {
 }
 
 // How the reading of a file ends.
-#[derive(Drop)]
+#[derive(Clone, Copy)]
 pub enum How {
     Accepted,
     // The refusal's number, and its place.
     Refused(u8, usize),
 }
 
-#[derive(Drop)]
+#[derive(Clone, Copy)]
 pub struct FileRead {
     pub how: How,
     pub policy: Policy,
     pub places: Places,
 }
 
-#[derive(Drop)]
+#[derive(Clone, Copy)]
 pub struct Loaded {
     pub how: How,
     pub policy: Policy,

@@ -1,4 +1,6 @@
 // One function over all kinds of request, and the table of the numbers that each kind may give.
+#![tactic(auto)]
+
 ghost use Rattle.std.specs.Prelude.{◌≡◌, true};
 ghost use Rattle.policy.specs.Good.{Sizes, Good};
 ghost use Rattle.policy.specs.Change.{decided};
@@ -10,7 +12,7 @@ use members::{assign_permission, assign_user, revoke_permission, revoke_user};
 use policy::{Answer, Change, Policy, accepted, changed, refused, unchanged};
 use sets::contains;
 
-#[derive(Drop)]
+#[derive(Clone, Copy)]
 pub struct Request {
     pub officer: u64,
     pub kind: u64,

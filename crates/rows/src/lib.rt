@@ -1,4 +1,6 @@
 // The tables of the policy file: of each a count, and its rows.
+#![tactic(auto)]
+
 ghost use Rattle.std.specs.Prelude.{◌≡◌, ◌<◌};
 ghost use Rattle.rows.specs.Rows.{no_range, range_at, range_read, row, no_table_row, table_row_at, row_read, no_table, table_at, table_read, no_ranges, ranges_at, ranges_read};
 
@@ -7,25 +9,25 @@ use policy::{Ranges, Row, Table, empty_ranges, empty_row, empty_table};
 use ranges::{AdminId, ModifyRow, RoleId};
 use sections::{Ended, ended_by, read_count, read_member, read_set};
 
-#[derive(Drop)]
+#[derive(Clone, Copy)]
 pub struct RangeRead {
     pub how: Ended,
     pub range: ModifyRow,
 }
 
-#[derive(Drop)]
+#[derive(Clone, Copy)]
 pub struct RowRead {
     pub how: Ended,
     pub row: Row,
 }
 
-#[derive(Drop)]
+#[derive(Clone, Copy)]
 pub struct TableRead {
     pub how: Ended,
     pub table: Table,
 }
 
-#[derive(Drop)]
+#[derive(Clone, Copy)]
 pub struct RangesRead {
     pub how: Ended,
     pub ranges: Ranges,

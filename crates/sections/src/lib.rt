@@ -1,4 +1,6 @@
 // The policy file before its tables: sets, counts and members, an order, users, permissions.
+#![tactic(auto)]
+
 ghost use Rattle.std.specs.Prelude.{◌≡◌};
 ghost use Rattle.number.specs.declared.Num.{Num};
 ghost use Rattle.sections.specs.Numbers.{set_at, count_at, member_at, ended_by};
@@ -10,7 +12,7 @@ use policy::{Members, People};
 use sets::{has, subset};
 
 // How the reading of a section ends.
-#[derive(Drop)]
+#[derive(Clone, Copy)]
 pub enum Ended {
     // The place past it.
     At(usize),
@@ -18,19 +20,19 @@ pub enum Ended {
     Stopped(u8, usize),
 }
 
-#[derive(Drop)]
+#[derive(Clone, Copy)]
 pub struct OrderRead {
     pub how: Ended,
     pub order: Order,
 }
 
-#[derive(Drop)]
+#[derive(Clone, Copy)]
 pub struct PeopleRead {
     pub how: Ended,
     pub people: People,
 }
 
-#[derive(Drop)]
+#[derive(Clone, Copy)]
 pub struct MembersRead {
     pub how: Ended,
     pub members: Members,

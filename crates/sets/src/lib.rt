@@ -1,4 +1,6 @@
 // Sets of the numbers 0 to 63, each a u64 with bit n for member n.
+#![tactic(auto)]
+
 ghost use Rattle.std.specs.Prelude.{◌≡◌, ◌<◌, eqb};
 ghost use Rattle.sets.specs.Sets.{has, Exactly, subset, agreeing, lowest, lowest_free, size};
 ghost use Rattle.sets.specs.Tests.{◌and◌, ◌or◌, neg};

@@ -1,4 +1,6 @@
 // Runs the vectors that the independent program of tests/ made, and prints how many agree for each outcome, and how many differ.
+#![tactic(auto)]
+
 ghost use Rattle.std.specs.Prelude.{◌<◌, length};
 ghost use Rattle.io.specs.Counts.{IsPrefixLen};
 ghost use Rattle.vectors.specs.Numbers.{Onward};

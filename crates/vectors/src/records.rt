@@ -8,7 +8,7 @@ use crate::tally::Ran;
 use requests::Request;
 
 // Where the two parts of a record end: the policy, and what the answer comes with.
-#[derive(Drop)]
+#[derive(Clone, Copy)]
 struct Span {
     whole: bool,
     middle: usize,

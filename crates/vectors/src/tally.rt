@@ -6,7 +6,7 @@ ghost use Rattle.std.specs.Prelude.{◌<◌};
 use std::num::wrapping_add_u64;
 
 // What a vector came to: whether the module agrees, under which row and outcome it counts, and where its record ends.
-#[derive(Drop)]
+#[derive(Clone, Copy)]
 pub struct Ran {
     pub agrees: bool,
     pub row: usize,

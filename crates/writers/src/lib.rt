@@ -1,4 +1,6 @@
 // Writers of the parts of the policy file.
+#![tactic(auto)]
+
 ghost use Rattle.std.specs.Prelude.{◌<◌, ◌≤◌};
 ghost use Rattle.number.specs.Number.{num_bytes};
 ghost use Rattle.layout.specs.Layout.{juniors_bytes, order_bytes, user_bytes, users_bytes, permissions_bytes, ends_bytes, row_bytes, rows_bytes, ranges_bytes};

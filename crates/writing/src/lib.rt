@@ -1,4 +1,6 @@
 // Writes the policy file, part by part, each directly after the part before it.
+#![tactic(auto)]
+
 ghost use Rattle.std.specs.Prelude.{◌≡◌, ◌≤◌, ltb, length};
 ghost use Rattle.policy.specs.Good.{Good};
 ghost use Rattle.layout.specs.Layout.{policy_bytes, tables_bytes, sections_bytes, TableSizes};
@@ -11,7 +13,7 @@ use policy::{Members, People, Policy, Ranges, Tables};
 use writers::{put_number, write_order, write_permissions, write_ranges, write_rows, write_users};
 
 // The writer's answer.
-#[derive(Drop)]
+#[derive(Clone, Copy)]
 pub enum Written {
     // The buffer is shorter than the file: number 10.
     TooShort,

@@ -1,0 +1,23 @@
+-- Assumes nothing.
+use mathlib.Core.Logic.{⊎_elim}
+use Rattle.sets.proofs.Loops.{gather_begin, gather_take, gather_skip, gather_set}
+use borrow.Author.Rules.{rules}
+use Rattle.hierarchy.proofs.tied_roles.Goals as goal
+
+pub loop-a-init : goal.loop-a-init
+loop-a-init c = (search rules, gather_begin _)
+
+pub is_tied-requires : goal.is_tied-requires
+is_tied-requires c =
+    let sizes = c.requires in
+    record { tables = (sizes.assign, sizes.revoke, sizes.assignp, sizes.revokep, sizes.modify); members = (sizes.users, sizes.permissions) }
+
+pub loop-a-preserved : goal.loop-a-preserved
+loop-a-preserved c =
+    let inv = c.loop-a.invariant.1 in (
+      search rules,
+      ⊎_elim (λ w. rw w.2 (gather_take _ _ _ _ inv w.1.ensures (cc))) (λ w. rw w.1 (gather_skip _ _ _ inv (cc))) c.if-is_tied.branch,
+    )
+
+pub returns : goal.returns
+returns c = gather_set 64 _ _ _ c.loop-a.invariant.0 c.loop-a-test.false c.loop-a.invariant.1

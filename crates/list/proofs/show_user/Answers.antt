@@ -1,0 +1,14 @@
+use mathlib.Core.Path.{sym, ◌∙◌}
+use native.Mathlib.Omega.{arith}
+use lib.Seq.{length-take-le}
+use Rattle.listing.proofs.Laws.{entries_fit}
+use Rattle.list.proofs.show_user.Goals as goal
+
+pub overflow_mul-end : goal.overflow_mul-end
+overflow_mul-end c = omega (arith, entries_fit _ _ _ (sym c.list-listed.ensures.is ∙ c.in-Entries.is))
+
+pub slice_bounds-out-end : goal.slice_bounds-out-end
+slice_bounds-out-end c = omega (arith, entries_fit _ _ _ (sym c.list-listed.ensures.is ∙ c.in-Entries.is), c.list-listed.auto.1.1.0)
+
+pub slice_bounds-show_entries-end : goal.slice_bounds-show_entries-end
+slice_bounds-show_entries-end c = sym (length-take-le _ _ (omega (arith, entries_fit _ _ _ (sym c.list-listed.ensures.is ∙ c.in-Entries.is), c.list-listed.auto.1.1.0)))

@@ -1,0 +1,8 @@
+use Prim.Native.Nat.{◌≤◌, ◌-◌}
+use Rattle.list.proofs.show_users.Given as goal
+
+abbrev pub invariant-loop-user : goal.invariant-loop-user
+invariant-loop-user l = l.user ≤ l.count
+
+abbrev pub decreases-loop-user : goal.decreases-loop-user
+decreases-loop-user l = l.count - l.user

@@ -1,0 +1,20 @@
+use native.Mathlib.Nat.{le_refl}
+use native.Mathlib.Omega.{arith}
+use lib.ListN.{length-set}
+use Rattle.sets.proofs.Loops.{rewrite_begin, rewrite_turn}
+use Rattle.order.specs.Order.{senior, at_least}
+use borrow.Author.Rules.{rules}
+use Rattle.order.proofs.spread.Goals as goal
+
+pub loop-x-init : goal.loop-x-init
+loop-x-init c = (search rules, search rules, rewrite_begin _ _)
+
+pub loop-x-preserved : goal.loop-x-preserved
+loop-x-preserved c =
+    let inv = c.loop-x.invariant in
+    let ens = c.grown.ensures in
+    (simp length-set inv.0, search rules, rewrite_turn _ _ _ _ _ (omega arith) inv.2 (rw (inv.2.rest _ (le_refl _)) at ens))
+
+pub returns : goal.returns
+unfolding senior at_least
+returns c = record { pair = λ x y l. c.loop-x.invariant.2.done x (omega arith) y }
