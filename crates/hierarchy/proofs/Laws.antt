@@ -120,8 +120,8 @@ pub sound_before : (s : Site) (g : Ground) (after : Order) (upper : List â„•) â†
 sound_before s g after upper l st u e =
     record {
       few = l;
-      seniors-before = st.above;
-      seniors-after = u;
+      seniors_before = st.above;
+      seniors_after = u;
       in_use = (st.sound e).in_use;
       sound = (st.sound e).rows;
     }

@@ -92,8 +92,8 @@ module _ (p : Policy) (g : Good p) where
         revoke = g.revoke;
         assignp = g.assignp;
         revokep = g.revokep;
-        revoke-plain = g.revoke_plain;
-        revokep-plain = g.revokep_plain;
+        revoke_plain = g.revoke_plain;
+        revokep_plain = g.revokep_plain;
         modify = g.modify;
         sound = g.sound;
       }

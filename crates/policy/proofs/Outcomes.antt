@@ -44,7 +44,7 @@ module _ {b t : Bool} (e : t ≡ b) where
 
 -- Every return of a flat list of tests, each a function whose contract is its condition: `search first-that-holds depth 12`. It reads what each
 -- test found by itself, so a test that is added or moved changes no line. Past some ten tests the search meets its bound: cut the list in two.
-pub ruleset first-that-holds = (first_here, first_next, first_none, neg_i, neg_fails, asked_true, asked_false, denied_true, denied_false, eq-eqb, ne_eqb)
+pub ruleset first_that_holds = (first_here, first_next, first_none, neg_i, neg_fails, asked_true, asked_false, denied_true, denied_false, eq-eqb, ne_eqb)
 
 -- ---- where a request is accepted, the condition of each number does not hold
 

@@ -64,7 +64,7 @@ module _ (js ss ls us : List ℕ) (before : Above js ss) (after : Above ls us) w
   unfolding senior
   ends_kept row l e d =
       record {
-        low-junior = l;
+        low_junior = l;
         over = λ s. seniors_same row.high.0 s (ap (λ (x : ℕ). has x s) (sym e));
         under = λ s. ap (λ (x : ℕ). has x s) (sym d);
       }
@@ -74,10 +74,10 @@ pub row_before : (rows : List ModifyRow) (count used : ℕ) (js ss ls us : List 
     → SameOutside used (senior js) (senior ls) differs → (i : ℕ) → i < count → RowBefore used js ss ls us differs (row_at rows i)
 row_before rows count used js ss ls us differs h same i l =
     record {
-      seniors-before = h.seniors_before;
-      seniors-after = h.seniors_after;
+      seniors_before = h.seniors_before;
+      seniors_after = h.seniors_after;
       in_use = h.in_use;
-      low-junior = h.sound.low_junior i l;
+      low_junior = h.sound.low_junior i l;
       capsule = h.sound.capsule i l;
       outside = same;
     }

@@ -37,7 +37,7 @@ module _ (used : ℕ) (f : Relation) (width : used < 2 ^ 64) (in_use : InUse use
   unfolding unsound low_not_junior not_encapsulated
   sound_means count rows e =
       record {
-        low-junior = λ i l. neg_false _ (any_none count _ (or_fails_l _ _ e) i l);
+        low_junior = λ i l. neg_false _ (any_none count _ (or_fails_l _ _ e) i l);
         capsule = λ i l. encapsulated_means _ _ (neg_false _ (any_none count _ (or_fails_l _ _ (or_fails_r _ _ e)) i l));
         apart = λ i j l m. any_none count _ (any_none count _ (or_fails_r _ _ (or_fails_r _ _ e)) i l) j m;
       }

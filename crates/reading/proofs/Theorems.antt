@@ -80,8 +80,8 @@ module _ (s : List ℕ) where
         revoke = b.revoke.rows;
         assignp = b.assignp.rows;
         revokep = b.revokep.rows;
-        revoke-plain = b.revoke.plain refl;
-        revokep-plain = b.revokep.plain refl;
+        revoke_plain = b.revoke.plain refl;
+        revokep_plain = b.revokep.plain refl;
         modify = b.modify.rows;
         sound = sound_rows w.front.orders.roles w.rest.modify a.roles.width a.roles.in_use n.low n.capsule n.apart;
       })

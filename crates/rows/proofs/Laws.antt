@@ -18,16 +18,16 @@ use Rattle.sections.proofs.Answers.{Answers}
 use Rattle.rows.specs.Rows.{range_at, range_read, table_row_at, row_read, table, row_step, table_at, table_read, ranges, range_step, ranges_at, ranges_read}
 
 pub range_answers : Answers range_read (λ r. r.how) (λ r. r.range)
-range_answers = record { how-go = λ e a. refl; how-stop = λ c p. refl; held-go = λ e a. refl }
+range_answers = record { how_go = λ e a. refl; how_stop = λ c p. refl; held_go = λ e a. refl }
 
 pub row_answers : Answers row_read (λ r. r.how) (λ r. r.row)
-row_answers = record { how-go = λ e a. refl; how-stop = λ c p. refl; held-go = λ e a. refl }
+row_answers = record { how_go = λ e a. refl; how_stop = λ c p. refl; held_go = λ e a. refl }
 
 pub table_answers : Answers table_read (λ r. r.how) (λ r. r.table)
-table_answers = record { how-go = λ e a. refl; how-stop = λ c p. refl; held-go = λ e a. refl }
+table_answers = record { how_go = λ e a. refl; how_stop = λ c p. refl; held_go = λ e a. refl }
 
 pub ranges_answers : Answers ranges_read (λ r. r.how) (λ r. r.ranges)
-ranges_answers = record { how-go = λ e a. refl; how-stop = λ c p. refl; held-go = λ e a. refl }
+ranges_answers = record { how_go = λ e a. refl; how_stop = λ c p. refl; held_go = λ e a. refl }
 
 -- ---- a table of rows
 

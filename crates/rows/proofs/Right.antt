@@ -114,8 +114,8 @@ module _ (s : List ℕ) (assign : Bool) (roles admins : ℕ) where
               brackets = omega arith;
               needed = needed.inner;
               barred = barred.inner;
-              needed-small = needed.small;
-              barred-small = barred.small;
+              needed_small = needed.small;
+              barred_small = barred.small;
             };
             plain = λ u. clash t u;
           })
@@ -130,8 +130,8 @@ module _ (s : List ℕ) (assign : Bool) (roles admins : ℕ) where
               brackets = omega arith;
               needed = subset_empty 64 roles;
               barred = subset_empty 64 roles;
-              needed-small = omega arith;
-              barred-small = omega arith;
+              needed_small = omega arith;
+              barred_small = omega arith;
             };
             plain = λ u. record { needed = refl; barred = refl };
           })

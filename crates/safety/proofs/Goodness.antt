@@ -76,8 +76,8 @@ module _ (gone : ℕ → Bool) (used after : ℕ) (stay : (x : ℕ) → has used
               brackets = r.brackets;
               needed = set_stays _ r.needed_small r.needed f.needed;
               barred = set_stays _ r.barred_small r.barred f.barred;
-              needed-small = r.needed_small;
-              barred-small = r.barred_small;
+              needed_small = r.needed_small;
+              barred_small = r.barred_small;
             };
         rest = g.rest;
         long = g.long;
@@ -107,8 +107,8 @@ module _ (p : Policy) (o : ℕ) (g : Good p) where
         revoke = table_stays gone _ _ stay _ _ n.revoke g.revoke;
         assignp = table_stays gone _ _ stay _ _ n.assignp g.assignp;
         revokep = table_stays gone _ _ stay _ _ n.revokep g.revokep;
-        revoke-plain = g.revoke_plain;
-        revokep-plain = g.revokep_plain;
+        revoke_plain = g.revoke_plain;
+        revokep_plain = g.revokep_plain;
         modify = record {
           admin = g.modify.admin;
           low = λ i h. stay _ (g.modify.low i h) (n.lows i h);

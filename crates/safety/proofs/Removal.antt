@@ -93,7 +93,7 @@ module _ (f g : Relation) (a : ℕ) (e : (x y : ℕ) → g x y ≡ removed f a x
     unfolding overlap
     remove_sound h =
         record {
-          low-junior = λ i l. keep _ _ (ends i l).1 (ends i l).0 ∙ h.low_junior i l;
+          low_junior = λ i l. keep _ _ (ends i l).1 (ends i l).0 ∙ h.low_junior i l;
           capsule = λ i l. remove_capsule _ _ (ends i l).0 (ends i l).1 used after kept (h.capsule i l);
           apart = λ i j l m. not_so _ (λ t. clash (still _ _ _ _ (row_kept i l) (row_kept j m) t) (h.apart i j l m));
         }
