@@ -55,10 +55,10 @@ pub encapsulated_is : (used : ℕ) (f : Relation) (low high range outside : ℕ)
     → Exactly range (inside f low high) → Exactly outside (λ s. has used s and neg (has range s))
     → parted_by_ends f low high range outside ≡ encapsulated used f low high
 unfolding encapsulated parted_by_ends parted
-encapsulated_is used f low high range outside range-is outside_is =
-    all_same 64 _ _ (λ r l. ap₂ ◌implies◌ (range-is r)
+encapsulated_is used f low high range outside range_is outside_is =
+    all_same 64 _ _ (λ r l. ap₂ ◌implies◌ (range_is r)
     (all_same 64 _ _ (λ s m. ap (λ (b : Bool). b implies ((f s r iff at_least f s high) and (f r s iff at_least f low s)))
-    (outside-is s ∙ ap (λ (b : Bool). has used s and neg b) (range-is s)))))
+    (outside_is s ∙ ap (λ (b : Bool). has used s and neg b) (range_is s)))))
 
 -- ---- a loop through the members of a set, the lowest first, that tests each
 module _ (f : ℕ → Bool) (set : ℕ) where

@@ -3,7 +3,4 @@ pub mod Checks
 pub mod Kept
 pub mod After
 pub mod Meaning
-pub mod Walk
-pub mod Lends
-pub mod Turns
 pub mod Opened

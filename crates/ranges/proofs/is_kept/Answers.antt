@@ -19,6 +19,6 @@ returns c =
     λ t.
     record {
       ends = c.ends_stay.ensures (not-false c.ends_stay.result c.if-not-ends_stay.false-raw);
-      members = members_kept _ _ _ _ c.fits.used.fits agrees c.range_set.ensures;
+      members = members_kept _ _ _ _ c.ranges.used.fits agrees c.range_set.ensures;
       clear = clear_of _ _ _ c.both.ensures (eqb-true _ _ t);
     }
