@@ -6,5 +6,5 @@ use Rattle.policy.proofs.office_of.Goals as goal
 
 pub returns-then-a-ge256 : goal.returns-then-a-ge256
 returns-then-a-ge256 c =
-    let n : length c.args.t1.offices ≡ 256 = search rules in
-    sym (get_or-eq_default c.args.t1.offices 0 (omega arith))
+    let n : length c.args.p.offices ≡ 256 = search rules in
+    sym (get_or-eq_default c.args.p.offices 0 (omega arith))
