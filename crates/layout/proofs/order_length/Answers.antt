@@ -11,7 +11,7 @@ loop-a-init c = count_none
 pub overflow_add-n : goal.overflow_add-n
 unfolding order_bytes
 overflow_add-n c =
-    let o = c.args.t1 in
+    let o = c.args.o in
     omega (
       arith,
       count_room c.loop-a.invariant (num_bytes o.used) c.loop-a-test.true
@@ -23,4 +23,4 @@ loop-a-preserved c = count_step c.loop-a.invariant c.loop-a-test.true c.juniors_
 
 pub returns : goal.returns
 unfolding order_bytes
-returns c = count-over c.loop-a.invariant (num_bytes c.args.t1.used) c.loop-a-test.false c.number_len-n.ensures
+returns c = count-over c.loop-a.invariant (num_bytes c.args.o.used) c.loop-a-test.false c.number_len-n.ensures

@@ -11,7 +11,7 @@ loop-i-init c = count_none
 pub overflow_add-n : goal.overflow_add-n
 unfolding permissions_bytes
 overflow_add-n c =
-    let m = c.args.t1 in
+    let m = c.args.m in
     omega (
       arith,
       count_room c.loop-i.invariant (num_bytes m.count) c.loop-i-test.true
@@ -23,4 +23,4 @@ loop-i-preserved c = count_step c.loop-i.invariant c.loop-i-test.true c.number_l
 
 pub returns : goal.returns
 unfolding permissions_bytes
-returns c = count-over c.loop-i.invariant (num_bytes c.args.t1.count) c.loop-i-test.false c.number_len-n.ensures
+returns c = count-over c.loop-i.invariant (num_bytes c.args.m.count) c.loop-i-test.false c.number_len-n.ensures

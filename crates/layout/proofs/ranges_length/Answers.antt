@@ -11,7 +11,7 @@ loop-i-init c = count_none
 pub overflow_add-n : goal.overflow_add-n
 unfolding ranges_bytes modify_bytes
 overflow_add-n c =
-    let m = c.args.t1 in
+    let m = c.args.m in
     omega (
       arith,
       count_room c.loop-i.invariant (num_bytes m.count) c.loop-i-test.true
@@ -24,4 +24,4 @@ loop-i-preserved c = count_step c.loop-i.invariant c.loop-i-test.true c.ends_len
 
 pub returns : goal.returns
 unfolding ranges_bytes modify_bytes
-returns c = count-over c.loop-i.invariant (num_bytes c.args.t1.count) c.loop-i-test.false c.number_len-n.ensures
+returns c = count-over c.loop-i.invariant (num_bytes c.args.m.count) c.loop-i-test.false c.number_len-n.ensures

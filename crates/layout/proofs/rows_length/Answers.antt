@@ -11,7 +11,7 @@ loop-i-init c = count_none
 pub overflow_add-n : goal.overflow_add-n
 unfolding rows_bytes
 overflow_add-n c =
-    let t = c.args.t2 in
+    let t = c.args.t in
     omega (
       arith,
       count_room c.loop-i.invariant (num_bytes t.count) c.loop-i-test.true
@@ -23,4 +23,4 @@ loop-i-preserved c = count_step c.loop-i.invariant c.loop-i-test.true c.row_leng
 
 pub returns : goal.returns
 unfolding rows_bytes
-returns c = count-over c.loop-i.invariant (num_bytes c.args.t2.count) c.loop-i-test.false c.number_len-n.ensures
+returns c = count-over c.loop-i.invariant (num_bytes c.args.t.count) c.loop-i-test.false c.number_len-n.ensures

@@ -11,7 +11,7 @@ loop-i-init c = count_none
 pub overflow_add-n : goal.overflow_add-n
 unfolding users_bytes
 overflow_add-n c =
-    let p = c.args.t1 in
+    let p = c.args.p in
     omega (
       arith,
       count_room c.loop-i.invariant (num_bytes p.users.count) c.loop-i-test.true
@@ -23,4 +23,4 @@ loop-i-preserved c = count_step c.loop-i.invariant c.loop-i-test.true c.user_len
 
 pub returns : goal.returns
 unfolding users_bytes
-returns c = count-over c.loop-i.invariant (num_bytes c.args.t1.users.count) c.loop-i-test.false c.number_len-n.ensures
+returns c = count-over c.loop-i.invariant (num_bytes c.args.p.users.count) c.loop-i-test.false c.number_len-n.ensures
