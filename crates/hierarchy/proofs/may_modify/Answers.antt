@@ -1,5 +1,5 @@
 use mathlib.Core.Path.{sym, ◌∙◌}
-use mathlib.Core.Logic.{⊎_elim}
+use Rattle.hierarchy.proofs.may_modify.Goals.{then-contains+else-row_allows, else-contains}
 use Rattle.sets.proofs.Tests.{and_i, and_fails_l, and_fails_r}
 use Rattle.hierarchy.specs.Rules.{row_allows, may_modify}
 use Rattle.sets.proofs.Loops.{none_begin, none_turn, found_any, none_any}
@@ -18,9 +18,15 @@ returns-then-row_allows c =
 
 pub loop-i-preserved : goal.loop-i-preserved
 loop-i-preserved c =
-    let fails = ⊎_elim (λ w. and_fails_r _ _ (sym w.2.ensures ∙ w.3.left))
-    (λ w. and_fails_l _ _ (sym c.contains.ensures ∙ w.left)) c.if-contains.branch in
-    (search rules, search rules, none_turn _ _ c.loop-i.invariant.2 fails)
+    (
+      search rules,
+      search rules,
+      none_turn _ _ c.loop-i.invariant.2
+      (elim c.if-contains.branch [
+        then-contains+else-row_allows w ↦ and_fails_r _ _ (sym w.row_allows.ensures ∙ w.if-row_allows.false)
+        | else-contains w ↦ and_fails_l _ _ (sym c.contains.ensures ∙ w.if-contains.false)
+      ]),
+    )
 
 pub returns : goal.returns
 unfolding may_modify

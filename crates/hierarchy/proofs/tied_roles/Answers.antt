@@ -1,5 +1,5 @@
 -- Assumes nothing.
-use mathlib.Core.Logic.{⊎_elim}
+use Rattle.hierarchy.proofs.tied_roles.Goals.{then-is_tied, else-is_tied}
 use Rattle.sets.proofs.Loops.{gather_begin, gather_take, gather_skip, gather_set}
 use borrow.Author.Rules.{rules}
 use Rattle.hierarchy.proofs.tied_roles.Goals as goal
@@ -16,7 +16,10 @@ pub loop-a-preserved : goal.loop-a-preserved
 loop-a-preserved c =
     let inv = c.loop-a.invariant.1 in (
       search rules,
-      ⊎_elim (λ w. rw w.2 (gather_take _ _ _ _ inv w.1.ensures (cc))) (λ w. rw w.1 (gather_skip _ _ _ inv (cc))) c.if-is_tied.branch,
+      elim c.if-is_tied.branch [
+        then-is_tied w ↦ rw w.set-is (gather_take _ _ _ _ inv w.with-set.ensures (cc))
+        | else-is_tied w ↦ rw w.set-is (gather_skip _ _ _ inv (cc))
+      ],
     )
 
 pub returns : goal.returns

@@ -1,6 +1,6 @@
 -- Assumes nothing.
 use mathlib.Core.Path.{sym, ◌∙◌}
-use mathlib.Core.Logic.{⊎_elim}
+use Rattle.listing.proofs.accepted_row.Goals.{then-site_outcome-eq0, else-site_outcome-eq0}
 use borrow.Author.Tests.{eq-eqb, ne_eqb, eqb-true}
 use Rattle.order.proofs.Loops.{left_lowest}
 use Rattle.listing.specs.Sites.{site_outcome}
@@ -23,8 +23,13 @@ loop-rest-preserved c =
     let e = c.site_outcome.ensures in
     let taken = c.without_lowest-rest.ensures.1 in
     let low = c.lowest-b.ensures in
-    ⊎_elim (λ w. rw w.2 (sift_take _ _ _ _ _ _ inv taken _ (rw low at w.1.ensures) (rw low at (eq-eqb _ 0 (sym e ∙ w.0.taken)))))
-    (λ w. rw w.1 (sift_skip _ _ _ _ _ _ inv taken (rw low at (ne_eqb _ 0 (λ q. w.0.left (e ∙ q)))))) c.if-site_outcome-eq0.branch
+    elim c.if-site_outcome-eq0.branch [
+      then-site_outcome-eq0 w ↦
+        rw w.row-is
+        (sift_take _ _ _ _ _ _ inv taken _ (rw low at w.with-row.ensures) (rw low at (eq-eqb _ 0 (sym e ∙ w.if-site_outcome-eq0.true))))
+      | else-site_outcome-eq0 w ↦
+        rw w.row-is (sift_skip _ _ _ _ _ _ inv taken (rw low at (ne_eqb _ 0 (λ q. w.if-site_outcome-eq0.false (e ∙ q)))))
+    ]
 
 pub returns : goal.returns
 returns c = sift_end 64 _ _ _ _ c.loop-rest.invariant c.loop-rest-test.false (λ n t. c.to_do-rest.ensures.each n (eqb-true _ 0 t)) (search rules)

@@ -14,7 +14,7 @@ overflow_add-n c =
     omega (
       arith,
       total_turn _ _ _ _ c.loop-j.invariant.1 c.size.ensures,
-      count_le ((c.loop-j.j + 1) * 64) (in_rows c.args.t1),
+      count_le ((c.loop-j.j + 1) * 64) (in_rows c.args.rows),
     )
 
 pub loop-j-preserved : goal.loop-j-preserved

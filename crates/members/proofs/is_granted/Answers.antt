@@ -1,5 +1,5 @@
 use mathlib.Core.Path.{sym, ◌∙◌}
-use mathlib.Core.Logic.{⊎_elim}
+use Rattle.members.proofs.is_granted.Goals.{then-row_covers+else-row_satisfied, else-row_covers}
 use Rattle.sets.proofs.Tests.{and_i, and_fails_l, and_fails_r}
 use Rattle.sets.proofs.Loops.{none_begin, none_turn, found_any, none_any}
 use Rattle.members.specs.Rules.{covers, granted}
@@ -19,9 +19,14 @@ returns-then-row_satisfied c =
 pub loop-i-preserved : goal.loop-i-preserved
 unfolding covers
 loop-i-preserved c =
-    let fails = ⊎_elim (λ w. and_fails_r _ _ (sym w.1.ensures ∙ w.2.left))
-    (λ w. and_fails_l _ _ (sym c.row_covers.ensures ∙ w.left)) c.if-row_covers.branch in
-    (search rules, none_turn _ _ c.loop-i.invariant.1 fails)
+    (
+      search rules,
+      none_turn _ _ c.loop-i.invariant.1
+      (elim c.if-row_covers.branch [
+        then-row_covers+else-row_satisfied w ↦ and_fails_r _ _ (sym w.row_satisfied.ensures ∙ w.if-row_satisfied.false)
+        | else-row_covers w ↦ and_fails_l _ _ (sym c.row_covers.ensures ∙ w.if-row_covers.false)
+      ]),
+    )
 
 pub returns : goal.returns
 unfolding granted

@@ -13,6 +13,12 @@ slice_bounds-write_rows-count c =
     let one = c.write_rows-assign.ensures in
     rest-inside one _ (room_first _ _ (room_first _ _ (room_first _ _ c.requires.1)))
 
+pub slice_bounds-write_rows-start : goal.slice_bounds-write_rows-start
+unfolding tables_bytes table_of
+slice_bounds-write_rows-start c =
+    let one = c.write_rows-assign.ensures in
+    rest-inside one _ (room_first _ _ (room_first _ _ (room_first _ _ c.requires.1)))
+
 pub write_rows-requires : goal.write_rows-requires
 unfolding tables_bytes table_of
 write_rows-requires c =
@@ -29,6 +35,13 @@ overflow_add-revoke c =
 pub slice_bounds-write_rows-count-2 : goal.slice_bounds-write_rows-count-2
 unfolding tables_bytes table_of
 slice_bounds-write_rows-count-2 c =
+    let one = c.write_rows-assign.ensures in
+    let two = wrote_rest one c.write_rows.ensures in
+    rest-inside two _ (room_first _ _ (room_first _ _ c.requires.1))
+
+pub slice_bounds-write_rows-start-2 : goal.slice_bounds-write_rows-start-2
+unfolding tables_bytes table_of
+slice_bounds-write_rows-start-2 c =
     let one = c.write_rows-assign.ensures in
     let two = wrote_rest one c.write_rows.ensures in
     rest-inside two _ (room_first _ _ (room_first _ _ c.requires.1))
@@ -56,6 +69,14 @@ slice_bounds-write_rows-count-3 c =
     let three = wrote_rest two c.write_rows-2.ensures in
     rest-inside three _ (room_first _ _ c.requires.1)
 
+pub slice_bounds-write_rows-start-3 : goal.slice_bounds-write_rows-start-3
+unfolding tables_bytes table_of
+slice_bounds-write_rows-start-3 c =
+    let one = c.write_rows-assign.ensures in
+    let two = wrote_rest one c.write_rows.ensures in
+    let three = wrote_rest two c.write_rows-2.ensures in
+    rest-inside three _ (room_first _ _ c.requires.1)
+
 pub write_rows-requires-3 : goal.write_rows-requires-3
 unfolding tables_bytes table_of
 write_rows-requires-3 c =
@@ -76,6 +97,15 @@ overflow_add-revokep c =
 pub slice_bounds-write_ranges-count : goal.slice_bounds-write_ranges-count
 unfolding tables_bytes table_of
 slice_bounds-write_ranges-count c =
+    let one = c.write_rows-assign.ensures in
+    let two = wrote_rest one c.write_rows.ensures in
+    let three = wrote_rest two c.write_rows-2.ensures in
+    let four = wrote_rest three c.write_rows-3.ensures in
+    rest-inside four _ c.requires.1
+
+pub slice_bounds-write_ranges-start : goal.slice_bounds-write_ranges-start
+unfolding tables_bytes table_of
+slice_bounds-write_ranges-start c =
     let one = c.write_rows-assign.ensures in
     let two = wrote_rest one c.write_rows.ensures in
     let three = wrote_rest two c.write_rows-2.ensures in
