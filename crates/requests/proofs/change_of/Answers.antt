@@ -48,4 +48,4 @@ returns-in-8 c = c.delete_edge.ensures ∙ rw c.in-8.is
 
 pub returns-in_default : goal.returns-in_default
 unfolding Rattle.requests.specs.Requests.decide
-returns-in_default c = unchanged-answer _ _ c.unchanged.ensures (omega arith) ∙ rw (rest_none _ c.in_default.rest)
+returns-in_default c = unchanged-answer _ _ c.unchanged.ensures (omega arith) ∙ rw (rest_none _ c.in_default.in_default-own.rest)

@@ -21,6 +21,12 @@ slice_bounds-write_tables-count c =
     let room = room_for c.args.p c.args.out.now c.is_short.ensures c.if-is_short.false in
     rest-inside c.write_sections-at.ensures _ room
 
+pub slice_bounds-write_tables-start : goal.slice_bounds-write_tables-start
+unfolding policy_bytes
+slice_bounds-write_tables-start c =
+    let room = room_for c.args.p c.args.out.now c.is_short.ensures c.if-is_short.false in
+    rest-inside c.write_sections-at.ensures _ room
+
 pub write_tables-requires : goal.write_tables-requires
 unfolding policy_bytes
 write_tables-requires c =
