@@ -32,7 +32,9 @@ use Rattle.policy.specs.declared.Table.{Table}
 use Rattle.policy.specs.declared.Ranges.{Ranges}
 use Rattle.policy.specs.declared.Orders.{Orders}
 use Rattle.faults.specs.Faults.{fault}
-use Rattle.reader.specs.Standing.{past_by}
+use Rattle.reader.specs.Standing.{standing, past_by}
+use denote.Ref.{Bor}
+use Rattle.reader.specs.declared.Reader.{Reader}
 use Rattle.reading.specs.declared.Front.{Front}
 use Rattle.reading.specs.declared.FrontRead.{FrontRead}
 use Rattle.reading.specs.declared.How.TheVariants as how
@@ -122,6 +124,29 @@ module _ (s : List ℕ) (at : ℕ) {n : Num} {one : Ended} {a b c d : ℕ} {o p 
       (after s people_answers (people_at s o.order.used p.order.used (past_by s p.how)) eu' (then_3 s o.order p.order) _ _
       (last s members_answers (members_at s o.order.used (past_by s u.how)) em' (then_4 s o.order p.order u.people)))))))
 
+-- the same of readers: one past a section stands on the same bytes, at the place past it
+module _ (r : Reader) {a b c d : Reader} {n : Num} {one : Ended} {o p : OrderRead} {u : PeopleRead} {m : MembersRead} where
+  pub front_passed : n ≡ num_at r.bytes.now r.at → one ≡ ended_by (is_one r.at n) → a ≡ standing r.bytes (past_by r.bytes.now one)
+      → o ≡ order_read (order_at a.bytes.now 0xFFFFFFFFFFFFFFFF a.at) → b ≡ standing a.bytes (past_by a.bytes.now o.how)
+      → p ≡ order_read (order_at b.bytes.now 0xFFFF b.at) → c ≡ standing b.bytes (past_by b.bytes.now p.how)
+      → u ≡ people_read (people_at c.bytes.now o.order.used p.order.used c.at) → d ≡ standing c.bytes (past_by c.bytes.now u.how)
+      → m ≡ members_read (members_at d.bytes.now o.order.used d.at) → (f : FrontRead) → f ≡ join_front one o p u m
+      → FrontGiven (front_at r.bytes.now r.at) f
+  front_passed en e1 ea eo eb ep ec eu ed em =
+      let wa : a.bytes.now ≡ r.bytes.now = ap (λ (x : Reader). x.bytes.now) ea in
+      let wb : b.bytes.now ≡ r.bytes.now = ap (λ (x : Reader). x.bytes.now) eb ∙ wa in
+      let wc : c.bytes.now ≡ r.bytes.now = ap (λ (x : Reader). x.bytes.now) ec ∙ wb in
+      let wd : d.bytes.now ≡ r.bytes.now = ap (λ (x : Reader). x.bytes.now) ed ∙ wc in
+      let s = r.bytes.now in
+      let pa : a.at ≡ past_by s one = ap (λ (x : Reader). x.at) ea in
+      let pb : b.at ≡ past_by s o.how = ap (λ (x : Reader). x.at) eb ∙ ap (λ (s : List ℕ). past_by s o.how) wa in
+      let pc : c.at ≡ past_by s p.how = ap (λ (x : Reader). x.at) ec ∙ ap (λ (s : List ℕ). past_by s p.how) wb in
+      let pd : d.at ≡ past_by s u.how = ap (λ (x : Reader). x.at) ed ∙ ap (λ (s : List ℕ). past_by s u.how) wc in
+      front_joined s r.at en e1 pa (eo ∙ ap (λ (s : List ℕ). order_read (order_at s 0xFFFFFFFFFFFFFFFF a.at)) wa) pb
+      (ep ∙ ap (λ (s : List ℕ). order_read (order_at s 0xFFFF b.at)) wb) pc
+      (eu ∙ ap (λ (s : List ℕ). people_read (people_at s o.order.used p.order.used c.at)) wc) pd
+      (em ∙ ap (λ (s : List ℕ). members_read (members_at s o.order.used d.at)) wd)
+
 -- ---- the tables
 
 -- what follows each table
@@ -208,6 +233,34 @@ module _ (s : List ℕ) (roles admins at : ℕ) {b c d e g : ℕ} {ta tr tp tq :
       (λ q. rest-judged s roles admins at f.front z (rest_at s roles admins at) refl _ _ rest_read q
       (ap (λ (x : FileRead). x.policy) y) (ap (λ (x : FileRead). x.places) y))
 
+-- the same of readers
+module _ (roles admins : ℕ) (r : Reader) {b c d e g : Reader} {ta tr tp tq : TableRead} {tm : RangesRead}
+    (ea : ta ≡ table_read (table_at r.bytes.now true roles admins r.at)) (eb : b ≡ standing r.bytes (past_by r.bytes.now ta.how))
+    (er : tr ≡ table_read (table_at b.bytes.now false roles admins b.at)) (ec : c ≡ standing b.bytes (past_by b.bytes.now tr.how))
+    (ep : tp ≡ table_read (table_at c.bytes.now true roles admins c.at)) (ed : d ≡ standing c.bytes (past_by c.bytes.now tp.how))
+    (eq : tq ≡ table_read (table_at d.bytes.now false roles admins d.at)) (ee : e ≡ standing d.bytes (past_by d.bytes.now tq.how))
+    (em : tm ≡ ranges_read (ranges_at e.bytes.now roles admins e.at)) (eg : g ≡ standing e.bytes (past_by e.bytes.now tm.how)) where
+  pub rest_passed : {ps : Places} → ps ≡ places r.at b.at c.at d.at e.at g.at → (f : FrontRead) (z : FileRead)
+      → z ≡ judged g.bytes.now f ta tr tp tq tm ps
+      → RestGiven f.how (on_step (rest_at r.bytes.now roles admins r.at) (λ end x. judge r.bytes.now end f.front x)) z
+  rest_passed {ps} es f z ez =
+      let s = r.bytes.now in
+      let wb : b.bytes.now ≡ s = ap (λ (x : Reader). x.bytes.now) eb in
+      let wc : c.bytes.now ≡ s = ap (λ (x : Reader). x.bytes.now) ec ∙ wb in
+      let wd : d.bytes.now ≡ s = ap (λ (x : Reader). x.bytes.now) ed ∙ wc in
+      let we : e.bytes.now ≡ s = ap (λ (x : Reader). x.bytes.now) ee ∙ wd in
+      let wg : g.bytes.now ≡ s = ap (λ (x : Reader). x.bytes.now) eg ∙ we in
+      let pb : b.at ≡ past_by s ta.how = ap (λ (x : Reader). x.at) eb in
+      let pc : c.at ≡ past_by s tr.how = ap (λ (x : Reader). x.at) ec ∙ ap (λ (s : List ℕ). past_by s tr.how) wb in
+      let pd : d.at ≡ past_by s tp.how = ap (λ (x : Reader). x.at) ed ∙ ap (λ (s : List ℕ). past_by s tp.how) wc in
+      let pe : e.at ≡ past_by s tq.how = ap (λ (x : Reader). x.at) ee ∙ ap (λ (s : List ℕ). past_by s tq.how) wd in
+      let pg : g.at ≡ past_by s tm.how = ap (λ (x : Reader). x.at) eg ∙ ap (λ (s : List ℕ). past_by s tm.how) we in
+      rest_joined s roles admins r.at ea pb (er ∙ ap (λ (s : List ℕ). table_read (table_at s false roles admins b.at)) wb) pc
+      (ep ∙ ap (λ (s : List ℕ). table_read (table_at s true roles admins c.at)) wc) pd
+      (eq ∙ ap (λ (s : List ℕ). table_read (table_at s false roles admins d.at)) wd) pe
+      (em ∙ ap (λ (s : List ℕ). ranges_read (ranges_at s roles admins e.at)) we) pg
+      es f z (ez ∙ ap (λ (s : List ℕ). judged s f ta tr tp tq tm ps) wg)
+
 -- what is read of the can-modify table fits it
 step_fits : (s : List ℕ) (roles admins at : ℕ) (w : Step Ranges) → ranges_at s roles admins at ≡ w → (ranges_read w).ranges.count ≤ 64
 step_fits s roles admins at (go e m) x = (ranges_right s roles admins at x).size
@@ -228,3 +281,12 @@ module _ (s : List ℕ) (f : FrontRead) (z : FileRead) where
       → FileGiven (file_at s) z
   unfolding file_at
   file_joined ei ef ea ez = then_rest (front_at s 0) (rw ei at ef) (rw ea at ez)
+
+-- the same of readers
+pub file_passed : (s : Bor (List ℕ)) (f : FrontRead) (z : FileRead) {r a : Reader} → r ≡ standing s 0 → FrontGiven (front_at r.bytes.now r.at) f
+    → a ≡ standing r.bytes (past_by r.bytes.now f.how) → RestGiven f.how (rest_on a.bytes.now a.at f.front) z → FileGiven (file_at s.now) z
+file_passed s f z {r} {a} er ef ea ez =
+    let wr : r.bytes.now ≡ s.now = ap (λ (x : Reader). x.bytes.now) er in
+    let wa : a.bytes.now ≡ s.now = ap (λ (x : Reader). x.bytes.now) ea ∙ wr in
+    let pa : a.at ≡ past_by s.now f.how = ap (λ (x : Reader). x.at) ea ∙ ap (λ (s : List ℕ). past_by s f.how) wr in
+    file_joined s.now f z (ap (λ (x : Reader). x.at) er) (rw wr at ef) pa (rw wa at ez)

@@ -19,7 +19,7 @@ put_entries-requires c =
     c.total-n.ensures c.if-out-n.false
 
 pub shape_of-out : goal.shape_of-out
-shape_of-out c = c.put_entries.auto.0
+shape_of-out c = c.put_entries.auto.out
 
 pub returns : goal.returns
 returns c =
