@@ -14,11 +14,8 @@ returns-in_default c =
 pub overflow_add-end : goal.overflow_add-end
 overflow_add-end c = omega (arith, found_inside _ _ (sym c.find_part-a.ensures ∙ c.in-Found.is))
 
-pub slice_bounds-result-count : goal.slice_bounds-result-count
-slice_bounds-result-count c = omega (arith, found_inside _ _ (sym c.find_part-a.ensures ∙ c.in-Found.is))
-
-pub slice_bounds-result-start : goal.slice_bounds-result-start
-slice_bounds-result-start c = omega arith
+pub slice_bounds-result-end-2 : goal.slice_bounds-result-end-2
+slice_bounds-result-end-2 c = omega (arith, found_inside _ _ (sym c.find_part-a.ensures ∙ c.in-Found.is))
 
 pub returns : goal.returns
 unfolding part_bytes
