@@ -21,8 +21,7 @@ unfolding create_rules
 returns-then-is_full c = search first_that_holds depth 12
 
 pub create_spoils-requires : goal.create_spoils-requires
-create_spoils-requires c =
-    (
+create_spoils-requires c = (
   search (rules, first_that_holds, pair_fit) depth 7,
   not_full _ (asked_false c.is_full.ensures c.if-is_full.false),
   search rules,

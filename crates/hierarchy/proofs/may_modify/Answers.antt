@@ -17,16 +17,15 @@ returns-then-row_allows c =
     found_any _ _ c.loop-i.i (search rules) (and_i _ _ usable allows)
 
 pub loop-i-preserved : goal.loop-i-preserved
-loop-i-preserved c =
-    (
-      search rules,
-      search rules,
-      none_turn _ _ c.loop-i.invariant.2
+loop-i-preserved c = (
+  search rules,
+  search rules,
+  none_turn _ _ c.loop-i.invariant.2
       (elim c.if-contains.branch [
-        then-contains+else-row_allows w ↦ and_fails_r _ _ (sym w.row_allows.ensures ∙ w.if-row_allows.false)
+        | then-contains+else-row_allows w ↦ and_fails_r _ _ (sym w.row_allows.ensures ∙ w.if-row_allows.false)
         | else-contains w ↦ and_fails_l _ _ (sym c.contains.ensures ∙ w.if-contains.false)
       ]),
-    )
+)
 
 pub returns : goal.returns
 unfolding may_modify

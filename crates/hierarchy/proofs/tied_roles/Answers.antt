@@ -17,7 +17,7 @@ loop-a-preserved c =
     let inv = c.loop-a.invariant.1 in (
       search rules,
       elim c.if-is_tied.branch [
-        then-is_tied w ↦ rw w.set-is (gather_take _ _ _ _ inv w.with-set.ensures (cc))
+        | then-is_tied w ↦ rw w.set-is (gather_take _ _ _ _ inv w.with-set.ensures (cc))
         | else-is_tied w ↦ rw w.set-is (gather_skip _ _ _ inv (cc))
       ],
     )

@@ -24,11 +24,11 @@ loop-rest-preserved c =
     let taken = c.without_lowest-rest.ensures.1 in
     let low = c.lowest-b.ensures in
     elim c.if-site_outcome-eq0.branch [
-      then-site_outcome-eq0 w ↦
-        rw w.row-is
-        (sift_take _ _ _ _ _ _ inv taken _ (rw low at w.with-row.ensures) (rw low at (eq-eqb _ 0 (sym e ∙ w.if-site_outcome-eq0.true))))
+      | then-site_outcome-eq0 w ↦
+          rw w.row-is
+          (sift_take _ _ _ _ _ _ inv taken _ (rw low at w.with-row.ensures) (rw low at (eq-eqb _ 0 (sym e ∙ w.if-site_outcome-eq0.true))))
       | else-site_outcome-eq0 w ↦
-        rw w.row-is (sift_skip _ _ _ _ _ _ inv taken (rw low at (ne_eqb _ 0 (λ q. w.if-site_outcome-eq0.false (e ∙ q)))))
+          rw w.row-is (sift_skip _ _ _ _ _ _ inv taken (rw low at (ne_eqb _ 0 (λ q. w.if-site_outcome-eq0.false (e ∙ q)))))
     ]
 
 pub returns : goal.returns

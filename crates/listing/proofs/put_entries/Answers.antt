@@ -30,7 +30,7 @@ loop-i-preserved c =
     let l = c.loop-i-test.true in
     let e = sym c.has.ensures in
     elim c.if-has.branch [
-      then-has w ↦ rw (w.at-is, w.out-is) (put_one x.rows _ _ _ _ k l (e ∙ w.if-has.true) w.put_entry.ensures)
+      | then-has w ↦ rw (w.at-is, w.out-is) (put_one x.rows _ _ _ _ k l (e ∙ w.if-has.true) w.put_entry.ensures)
       | else-has w ↦ rw (w.at-is, w.out-is) (put_skip x.rows _ _ _ _ k l (e ∙ w.if-has.false))
     ]
 

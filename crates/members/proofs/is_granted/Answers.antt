@@ -18,15 +18,14 @@ returns-then-row_satisfied c =
 
 pub loop-i-preserved : goal.loop-i-preserved
 unfolding covers
-loop-i-preserved c =
-    (
-      search rules,
-      none_turn _ _ c.loop-i.invariant.1
+loop-i-preserved c = (
+  search rules,
+  none_turn _ _ c.loop-i.invariant.1
       (elim c.if-row_covers.branch [
-        then-row_covers+else-row_satisfied w ↦ and_fails_r _ _ (sym w.row_satisfied.ensures ∙ w.if-row_satisfied.false)
+        | then-row_covers+else-row_satisfied w ↦ and_fails_r _ _ (sym w.row_satisfied.ensures ∙ w.if-row_satisfied.false)
         | else-row_covers w ↦ and_fails_l _ _ (sym c.row_covers.ensures ∙ w.if-row_covers.false)
       ]),
-    )
+)
 
 pub returns : goal.returns
 unfolding granted

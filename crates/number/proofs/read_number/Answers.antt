@@ -15,7 +15,7 @@ pub returns-then-is_long : goal.returns-then-is_long
 returns-then-is_long c =
     read_bad c.read_groups-g.ensures c.if-end-last.false c.wide-b.ensures refl
     (elim c.then-is_long.branch [
-      then-is_long-via-then-is_long w ↦ or_l _ _ (sym c.is_long.ensures ∙ w.if-is_long.true)
+      | then-is_long-via-then-is_long w ↦ or_l _ _ (sym c.is_long.ensures ∙ w.if-is_long.true)
       | then-is_long-via-else-is_long+then-is_over w ↦ or_r _ _ (sym w.is_over.ensures ∙ w.if-is_over.true)
     ])
 

@@ -9,11 +9,10 @@ loop-a-init c = (search rules, gather_begin _)
 
 pub loop-a-preserved : goal.loop-a-preserved
 loop-a-preserved c =
-    let inv = c.loop-a.invariant.1 in
-    (
+    let inv = c.loop-a.invariant.1 in (
       search rules,
       elim c.if-is_senior.branch [
-        then-is_senior w ↦ rw w.set-is (gather_take _ _ _ _ inv w.with-set.ensures (cc))
+        | then-is_senior w ↦ rw w.set-is (gather_take _ _ _ _ inv w.with-set.ensures (cc))
         | else-is_senior w ↦ rw w.set-is (gather_skip _ _ _ inv (cc))
       ],
     )

@@ -16,12 +16,11 @@ returns-then-not-is_parted c =
     (sym c.is_parted.ensures ∙ not-true c.is_parted.result c.if-not-is_parted.true-raw)
 
 pub loop-rest-preserved : goal.loop-rest-preserved
-loop-rest-preserved c =
-    (
-      search rules,
-      left_turn _ _ _ _ _ _ c.loop-rest.invariant.1 (rw (← c.lowest.ensures) at c.without_lowest-rest.ensures.1) (λ n p. p)
-          (sym c.is_parted.ensures ∙ not-false c.is_parted.result c.if-not-is_parted.false-raw),
-    )
+loop-rest-preserved c = (
+  search rules,
+  left_turn _ _ _ _ _ _ c.loop-rest.invariant.1 (rw (← c.lowest.ensures) at c.without_lowest-rest.ensures.1) (λ n p. p)
+      (sym c.is_parted.ensures ∙ not-false c.is_parted.result c.if-not-is_parted.false-raw),
+)
 
 pub returns : goal.returns
 returns c = passed_all _ _ _ c.loop-rest.invariant.1 (search rules)

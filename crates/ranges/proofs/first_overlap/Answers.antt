@@ -19,12 +19,11 @@ returns-then-overlap_from-count c =
 
 pub loop-i-preserved : goal.loop-i-preserved
 unfolding within
-loop-i-preserved c =
-    (
-      search rules,
-      none_turn _ _ c.loop-i.invariant.1
-          (sym (later _ _ _ _ _ c.range_set-range.ensures) ∙ le-ltb _ _ (rw c.overlap_from.ensures at c.if-overlap_from-count.false)),
-    )
+loop-i-preserved c = (
+  search rules,
+  none_turn _ _ c.loop-i.invariant.1
+      (sym (later _ _ _ _ _ c.range_set-range.ensures) ∙ le-ltb _ _ (rw c.overlap_from.ensures at c.if-overlap_from-count.false)),
+)
 
 pub returns : goal.returns
 unfolding first_overlap

@@ -24,8 +24,8 @@ returns c =
     let inv = c.loop-i.invariant in
     c.at_most.ensures ∙
     elim c.loop-i-test.branch [
-      else-loop-i-test w ↦ up_to-count _ _ w.loop-i-test.false ∙ none_least _ _ _ w.loop-i-test.false inv.1
+      | else-loop-i-test w ↦ up_to-count _ _ w.loop-i-test.false ∙ none_least _ _ _ w.loop-i-test.false inv.1
       | then-loop-i-test+then-overlaps w ↦
-        up_to_place _ _ w.loop-i-test.true
-        ∙ found_least _ _ _ w.loop-i-test.true inv.1 (and_i _ _ (le-leb _ _ inv.0) (sym w.overlaps.ensures ∙ w.if-overlaps.true))
+          up_to_place _ _ w.loop-i-test.true
+          ∙ found_least _ _ _ w.loop-i-test.true inv.1 (and_i _ _ (le-leb _ _ inv.0) (sym w.overlaps.ensures ∙ w.if-overlaps.true))
     ]

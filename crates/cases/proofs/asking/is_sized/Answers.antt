@@ -23,8 +23,7 @@ pub returns-then-revokep-gt64 : goal.returns-then-revokep-gt64
 returns-then-revokep-gt64 c = (λ e. clash e refl, λ s. absurd (omega arith))
 
 pub returns : goal.returns
-returns c =
-    (
+returns c = (
   λ e.
       record {
         users = omega arith;
