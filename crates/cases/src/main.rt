@@ -12,6 +12,7 @@ use policies::policy_of;
 use requests::may_give;
 use sets::with;
 use show::{show_answer, show_change, show_end, show_reached};
+use std::io;
 
 // A request of a policy, by number.
 #[derive(Clone, Copy)]
@@ -113,14 +114,14 @@ fn case_at(i: usize) -> Case
 }
 
 // Prints the line of a case and hands its outcome on.
-fn run(case: Case) -> u64 {
+fn run(rt: &impl Print, case: Case) -> io::Result<u64> {
     let before = policy_of(case.policy);
     let answer = ask(before, case.officer, case.kind, case.a, case.b);
     let outcome = answer.outcome;
-    show_answer(case.label, outcome, answer.number);
-    show_change(before, answer.policy);
-    show_end(may_give(case.kind, outcome));
-    outcome
+    show_answer(rt, case.label, outcome, answer.number)?;
+    show_change(rt, before, answer.policy)?;
+    show_end(rt, may_give(case.kind, outcome))?;
+    Ok(outcome)
 }
 
 // Keeps by kind the numbers reached; kind 0 stands for every unknown one.
@@ -137,14 +138,14 @@ fn note(reached: &mut [u64; 9], kind: u64, outcome: u64) {
     reached[row] = with(reached[row], number);
 }
 
-fn main() {
+fn main(rt: HostRuntime) -> io::Result<()> {
     let mut reached = [0u64; 9];
     let mut i = 0;
     while i < CASES.len() {
         let case = case_at(i);
-        let outcome = run(case);
+        let outcome = run(&rt, case)?;
         note(&mut reached, case.kind, outcome);
         i += 1;
     }
-    show_reached(reached);
+    show_reached(&rt, reached)
 }

@@ -1,4 +1,5 @@
-// What C calls: numbers and byte slices in, one number out. Each entry reads the file it is given, and assumes nothing of any input.
+// What C calls, through crate entries_c: numbers and byte slices in, one number out. Each entry reads the file it is given, and assumes nothing of
+// any input.
 #![tactic(auto)]
 
 ghost use Rattle.requests.specs.Requests.{ask};
@@ -12,8 +13,7 @@ use reading::{How, read_file, read_policy};
 use requests::{Request, change_of};
 
 // Is this a policy file?
-#[unsafe(no_mangle)]
-pub extern "C" fn aestilumne_check(policy: &[u8]) -> u64
+pub fn aestilumne_check(policy: &[u8]) -> u64
     ensures { CheckOf policy.now result }
 {
     let file = read_policy(policy);
@@ -22,8 +22,7 @@ pub extern "C" fn aestilumne_check(policy: &[u8]) -> u64
 }
 
 // Carries out a request, and writes the policy after it.
-#[unsafe(no_mangle)]
-pub extern "C" fn aestilumne_request(
+pub fn aestilumne_request(
     policy: &[u8],
     officer: u64,
     kind: u64,
@@ -52,8 +51,7 @@ pub extern "C" fn aestilumne_request(
 }
 
 // Lists the requests of kinds 5 to 8 that would be accepted from an officer.
-#[unsafe(no_mangle)]
-pub extern "C" fn aestilumne_listing(policy: &[u8], officer: u64, out: &mut [u8]) -> u64
+pub fn aestilumne_listing(policy: &[u8], officer: u64, out: &mut [u8]) -> u64
     ensures { ListOf policy.now officer out.old result out.new }
 {
     let file = read_file(policy);
@@ -66,8 +64,7 @@ pub extern "C" fn aestilumne_listing(policy: &[u8], officer: u64, out: &mut [u8]
 }
 
 // May a user exercise a permission?
-#[unsafe(no_mangle)]
-pub extern "C" fn aestilumne_question(policy: &[u8], user: u64, permission: u64) -> u64
+pub fn aestilumne_question(policy: &[u8], user: u64, permission: u64) -> u64
     ensures { QuestionOf policy.now user permission result }
 {
     let file = read_file(policy);
@@ -80,8 +77,7 @@ pub extern "C" fn aestilumne_question(policy: &[u8], user: u64, permission: u64)
 }
 
 // Where does a table stand in the file?
-#[unsafe(no_mangle)]
-pub extern "C" fn aestilumne_table(policy: &[u8], table: u64) -> u64
+pub fn aestilumne_table(policy: &[u8], table: u64) -> u64
     ensures { TableOf policy.now table result }
 {
     let part = find_part(policy, table);

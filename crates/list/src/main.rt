@@ -1,81 +1,104 @@
 // The listing program: reads a policy on standard input and writes for each user in turn one line an entry. A refused file writes nothing.
 #![tactic(auto)]
 
+ghost use Rattle.std.specs.Prelude.{◌≤◌, length, IfOk};
 ghost use Rattle.policy.specs.Good.{Good};
 
 mod lines;
 
-use libc::{STDIN_FILENO, STDOUT_FILENO};
 use lines::put_line;
 use listing::{Listed, list};
 use policy::Policy;
 use reading::{How, read_policy};
+use std::io;
+use std::io::{Read, Write};
 
-fn show_line(user: u8, kind: u8, a: u8, b: u8) {
+fn show_line(rt: &impl Print, user: u8, kind: u8, a: u8, b: u8) -> io::Result<()> {
     let mut line = [0u8; 16];
     let n = put_line(&mut line, user, kind, a, b);
-    io::write_all(STDOUT_FILENO, &line[..n]);
+    io::writer(rt).write_all(&line[..n])
 }
 
 // A line for each three bytes.
-fn show_entries(user: u8, entries: &[u8]) {
+fn show_entries(rt: &impl Print, user: u8, entries: &[u8]) -> io::Result<()> {
     let mut at = 0;
     while 3 <= entries.len() - at {
-        show_line(user, entries[at], entries[at + 1], entries[at + 2]);
+        show_line(rt, user, entries[at], entries[at + 1], entries[at + 2])?;
         at += 3;
     }
+    Ok(())
 }
 
 // The buffer is document 01's 37,056 bytes, which are always enough.
-fn show_user(p: Policy, user: u8)
+fn show_user(rt: &impl Print, p: Policy, user: u8) -> io::Result<()>
     requires { Good p }
 {
     let mut out = [0u8; 37056];
     let listed = list(p, user as u64, &mut out);
     let Listed::Entries(n) = listed else {
-        return;
+        return Ok(());
     };
     let end = 3 * n;
-    show_entries(user, &out[..end]);
+    show_entries(rt, user, &out[..end])
 }
 
-fn show_users(p: Policy)
+fn show_users(rt: &impl Print, p: Policy) -> io::Result<()>
     requires { Good p }
 {
     let count = p.people.users.count;
     let mut user = 0;
     while user < count {
-        show_user(p, user as u8);
+        show_user(rt, p, user as u8)?;
         user += 1;
     }
+    Ok(())
 }
 
-fn show_file(file: &[u8]) {
+fn show_file(rt: &impl Print, file: &[u8]) -> io::Result<()> {
     let loaded = read_policy(file);
     let how = loaded.how;
     let How::Accepted = how else {
-        return;
+        return Ok(());
     };
-    show_users(loaded.policy);
+    show_users(rt, loaded.policy)
 }
 
-fn skip_some() -> bool {
-    let mut bytes = io::buffer();
-    0 < libc::read(STDIN_FILENO, &mut bytes)
-}
-
-// A proved loop has to end, and nothing says that an input does: so it counts its turns down, from a number that no run uses up.
-fn skip_rest() {
-    let mut turns = u64::MAX;
-    while turns > 0 && skip_some() {
-        turns -= 1;
+// As much of the input as there is, and no more than the buffer holds.
+fn read_full(input: &mut (impl Read + Drop), s: &mut [u8]) -> io::Result<usize>
+    ensures ok { IfOk result (λ n. n ≤ length s.new) }
+{
+    let mut n = 0;
+    while n < s.len() {
+        let more = input.read(&mut s[n..])?;
+        if more == 0 {
+            return Ok(n);
+        }
+        n += more;
     }
+    Ok(n)
+}
+
+fn skip_some(input: &mut (impl Read + Drop)) -> io::Result<bool> {
+    let mut bytes = [0u8; 4096];
+    let n = input.read(&mut bytes)?;
+    Ok(0 < n)
+}
+
+// A proved loop has to end, and nothing says that an input does: so it counts its turns, up to a number that no run reaches.
+fn skip_rest(input: &mut (impl Read + Drop)) -> io::Result<()> {
+    for _ in 0..u64::MAX {
+        if !skip_some(input)? {
+            return Ok(());
+        }
+    }
+    Ok(())
 }
 
 // No policy has more than 10,375 bytes: of a longer input the first 10,376 are refused, whatever follows them.
-fn main() {
+fn main(rt: HostRuntime) -> io::Result<()> {
     let mut file = [0u8; 10376];
-    let n = io::read_full(STDIN_FILENO, &mut file);
-    skip_rest();
-    show_file(&file[..n]);
+    let mut input = rt.reader();
+    let n = read_full(&mut input, &mut file)?;
+    skip_rest(&mut input)?;
+    show_file(&rt, &file[..n])
 }

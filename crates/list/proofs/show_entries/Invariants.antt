@@ -3,7 +3,7 @@ use lib.ListN.{length}
 use Rattle.list.proofs.show_entries.Given as goal
 
 abbrev pub invariant-loop-at : goal.invariant-loop-at
-invariant-loop-at l = l.at ≤ length l.entries
+invariant-loop-at g l = l.at ≤ length l.entries
 
 abbrev pub decreases-loop-at : goal.decreases-loop-at
-decreases-loop-at l = length l.entries - l.at
+decreases-loop-at g l = length l.entries - l.at
