@@ -1,7 +1,8 @@
 // The listing program: reads a policy on standard input and writes for each user in turn one line an entry. A refused file writes nothing.
 #![tactic(auto)]
 
-ghost use Rattle.std.specs.Prelude.{◌≤◌, length, IfOk};
+ghost use Rattle.std.specs.Prelude.{IfOk};
+ghost use Rattle.io.specs.Counts.{IsPrefixLen};
 ghost use Rattle.policy.specs.Good.{Good};
 
 mod lines;
@@ -65,7 +66,7 @@ fn show_file(rt: &impl Print, file: &[u8]) -> io::Result<()> {
 
 // As much of the input as there is, and no more than the buffer holds.
 fn read_full(input: &mut (impl Read + Drop), s: &mut [u8]) -> io::Result<usize>
-    ensures ok { IfOk result (λ n. n ≤ length s.new) }
+    ensures { IfOk result (λ n. IsPrefixLen n s.new) }
 {
     let mut n = 0;
     while n < s.len() {

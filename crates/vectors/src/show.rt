@@ -1,61 +1,53 @@
 // What the program prints.
-use libc::STDOUT_FILENO;
+use std::io;
 
-fn show_number(before: &[u8], x: u64) {
-    io::write_all(STDOUT_FILENO, before);
-    io::print_decimal(STDOUT_FILENO, x);
-}
-
-fn show_label(row: u64) {
+fn show_label(rt: &impl Print, row: u64) -> io::Result<()> {
     match row {
-        0 => {
-            io::write_all(STDOUT_FILENO, b"file");
-        }
-        9 => {
-            io::write_all(STDOUT_FILENO, b"unknown kind");
-        }
-        10 => {
-            io::write_all(STDOUT_FILENO, b"listing");
-        }
-        11 => {
-            io::write_all(STDOUT_FILENO, b"table");
-        }
-        _ => {
-            show_number(b"kind ", row);
-        }
+        0 => print!(rt; "file"),
+        9 => print!(rt; "unknown kind"),
+        10 => print!(rt; "listing"),
+        11 => print!(rt; "table"),
+        _ => print!(rt; "kind {row}"),
     }
 }
 
 // How many vectors of a row agree on an outcome; for files also their lowest and highest place.
-fn show_count(row: u64, outcome: u64, count: u64, low: u64, high: u64) {
-    show_label(row);
-    show_number(b" ", outcome);
-    show_number(b": ", count);
+fn show_count(
+    rt: &impl Print,
+    row: u64,
+    outcome: u64,
+    count: u64,
+    low: u64,
+    high: u64,
+) -> io::Result<()> {
+    show_label(rt, row)?;
+    print!(rt; " {outcome}: {count}")?;
     if row == 0 {
-        show_number(b", places ", low);
-        show_number(b" to ", high);
+        print!(rt; ", places {low} to {high}")?;
     }
-    io::write_all(STDOUT_FILENO, b"\n");
+    println!(rt)
 }
 
-pub fn show_counts(tally: [u64; 393]) {
+pub fn show_counts(rt: &impl Print, tally: [u64; 393]) -> io::Result<()> {
     let mut i = 0;
     while i < 336 {
         if 0 < tally[i] {
             let outcome = i % 28;
             show_count(
+                rt,
                 (i / 28) as u64,
                 outcome as u64,
                 tally[i],
                 tally[337 + outcome],
                 tally[365 + outcome],
-            );
+            )?;
         }
         i += 1;
     }
+    Ok(())
 }
 
-pub fn show_differences(tally: [u64; 393]) {
-    show_number(b"differences: ", tally[336]);
-    io::write_all(STDOUT_FILENO, b"\n");
+pub fn show_differences(rt: &impl Print, tally: [u64; 393]) -> io::Result<()> {
+    let count = tally[336];
+    println!(rt; "differences: {count}")
 }

@@ -5,10 +5,10 @@ use Rattle.listing.proofs.Laws.{entries_fit}
 use Rattle.list.proofs.show_user.Goals as goal
 
 pub overflow_mul-end : goal.overflow_mul-end
-overflow_mul-end c = omega (arith, entries_fit _ _ _ (sym c.list-listed.ensures.is ∙ c.in-Entries.is))
+overflow_mul-end g c = omega (arith, entries_fit _ _ _ (sym c.list-listed.ensures.is ∙ c.in-Entries.is))
 
 pub slice_bounds-out-end : goal.slice_bounds-out-end
-slice_bounds-out-end c = omega (arith, entries_fit _ _ _ (sym c.list-listed.ensures.is ∙ c.in-Entries.is), c.list-listed.auto.1.1.0)
+slice_bounds-out-end g c = omega (arith, entries_fit _ _ _ (sym c.list-listed.ensures.is ∙ c.in-Entries.is), c.list-listed.auto.out)
 
 pub slice_bounds-show_entries-end : goal.slice_bounds-show_entries-end
-slice_bounds-show_entries-end c = sym (length-take-le _ _ (omega (arith, entries_fit _ _ _ (sym c.list-listed.ensures.is ∙ c.in-Entries.is), c.list-listed.auto.1.1.0)))
+slice_bounds-show_entries-end g c = sym (length-take-le _ _ (omega (arith, entries_fit _ _ _ (sym c.list-listed.ensures.is ∙ c.in-Entries.is), c.list-listed.auto.out)))

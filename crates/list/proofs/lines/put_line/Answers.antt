@@ -43,4 +43,4 @@ returns c =
     let n : c.put_field.result ≤ length c.put_field.new.out =
     omega
     (arith, past_four (field_most _ _) w, past_four (field_most _ _) v, past_four (field_most _ _) u, past_four (field_most _ _) t, wrote_long all) in
-    ((n, sym (length-take-le _ _ n)), all)
+    record { prefix_len = (n, sym (length-take-le _ _ n)); wrote = all }
