@@ -70,7 +70,10 @@ here == "" { next }
         taken[here] += amount(last)
         looped = 1
     } else if (last ~ /^sub +\$0x[0-9a-f]+,%rsp$/) {
-        if (!(looped && amount(last) == 4096))
+        # the first after that is the loop's own step
+        if (looped == 1)
+            looped = 2
+        else
             taken[here] += amount(last)
     } else if (last ~ /^add +\$0x[0-9a-f]+,%rsp$/)
         given[here, ++gifts[here]] = amount(last)
