@@ -65,7 +65,8 @@ fn accepted_row(site: Site, ground: Ground, kind: u64, a: usize) -> u64
     let mut rest = to_do(site, ground, kind, a);
     while rest != 0 {
         let b = lowest(rest);
-        if site_outcome(site, ground, kind, a as u64, b as u64) == 0 {
+        let outcome = site_outcome(site, ground, kind, a as u64, b as u64);
+        if outcome == 0 {
             row = with(row, b);
         }
         rest = without_lowest(rest);

@@ -6,6 +6,9 @@ ghost use Rattle.parts.specs.Parts.{start_of, end_of, refusal_of, part_at, part_
 
 use reading::{How, Places, read_file};
 
+// The number of the first table.
+const FIRST: u64 = 1;
+
 // Where a table stands.
 #[derive(Clone, Copy)]
 pub enum Part {
@@ -66,7 +69,7 @@ fn refusal_of(how: How) -> Part
 pub fn find_part(s: &[u8], table: u64) -> Part
     ensures { result ≡ part_at s.now table }
 {
-    if table < 1 {
+    if table < FIRST {
         return Part::Refused(1, 0);
     }
     if 5 < table {

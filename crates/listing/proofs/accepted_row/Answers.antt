@@ -1,6 +1,6 @@
 -- Assumes nothing.
 use mathlib.Core.Path.{sym, ◌∙◌}
-use Rattle.listing.proofs.accepted_row.Goals.{then-site_outcome-eq0, else-site_outcome-eq0}
+use Rattle.listing.proofs.accepted_row.Goals.{then-outcome-eq0, else-outcome-eq0}
 use borrow.Author.Tests.{eq-eqb, ne_eqb, eqb-true}
 use Rattle.order.proofs.Loops.{left_lowest}
 use Rattle.listing.specs.Sites.{site_outcome}
@@ -20,15 +20,15 @@ loop-rest-smaller c = c.without_lowest-rest.ensures.0
 pub loop-rest-preserved : goal.loop-rest-preserved
 loop-rest-preserved c =
     let inv = c.loop-rest.invariant in
-    let e = c.site_outcome.ensures in
+    let e = c.site_outcome-outcome.ensures in
     let taken = c.without_lowest-rest.ensures.1 in
     let low = c.lowest-b.ensures in
-    elim c.if-site_outcome-eq0.branch [
-      | then-site_outcome-eq0 w ↦
+    elim c.if-outcome-eq0.branch [
+      | then-outcome-eq0 w ↦
           rw w.row-is
-          (sift_take _ _ _ _ _ _ inv taken _ (rw low at w.with-row.ensures) (rw low at (eq-eqb _ 0 (sym e ∙ w.if-site_outcome-eq0.true))))
-      | else-site_outcome-eq0 w ↦
-          rw w.row-is (sift_skip _ _ _ _ _ _ inv taken (rw low at (ne_eqb _ 0 (λ q. w.if-site_outcome-eq0.false (e ∙ q)))))
+          (sift_take _ _ _ _ _ _ inv taken _ (rw low at w.with-row.ensures) (rw low at (eq-eqb _ 0 (sym e ∙ w.if-outcome-eq0.true))))
+      | else-outcome-eq0 w ↦
+          rw w.row-is (sift_skip _ _ _ _ _ _ inv taken (rw low at (ne_eqb _ 0 (λ q. w.if-outcome-eq0.false (e ∙ q)))))
     ]
 
 pub returns : goal.returns

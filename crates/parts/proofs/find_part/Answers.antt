@@ -7,9 +7,9 @@ use Rattle.reading.proofs.Laws.{file_got, file_lost}
 use Rattle.parts.proofs.Laws.{table_low, table_high, table_is, file_inside}
 use Rattle.parts.proofs.find_part.Goals as goal
 
-pub returns-then-table-lt1 : goal.returns-then-table-lt1
+pub returns-then-table-lt-FIRST : goal.returns-then-table-lt-FIRST
 unfolding part_at
-returns-then-table-lt1 c = rw (table_low c.args.table c.if-table-lt1.true)
+returns-then-table-lt-FIRST c = rw (table_low c.args.table c.if-table-lt-FIRST.true)
 
 pub returns-then-table-gt5 : goal.returns-then-table-gt5
 unfolding part_at
@@ -20,7 +20,7 @@ unfolding part_at
 returns-in_default c =
     let x = c.in_default.is in
     let w = file_lost (file_at _) _ c.read_file-f.ensures x in
-    c.refusal_of.ensures ∙ ap refusal_of x ∙ rw (table_is c.args.table c.if-table-lt1.false c.if-table-gt5.false, w)
+    c.refusal_of.ensures ∙ ap refusal_of x ∙ rw (table_is c.args.table c.if-table-lt-FIRST.false c.if-table-gt5.false, w)
 
 pub overflow_sub-result : goal.overflow_sub-result
 overflow_sub-result c =
@@ -31,4 +31,4 @@ pub returns : goal.returns
 unfolding part_at
 returns c =
     let w = (file_got (file_at _) _ c.read_file-f.ensures c.in-Accepted.is).1 in
-    rw (table_is c.args.table c.if-table-lt1.false c.if-table-gt5.false, w, c.start_of-start.ensures, c.end_of-end.ensures)
+    rw (table_is c.args.table c.if-table-lt-FIRST.false c.if-table-gt5.false, w, c.start_of-start.ensures, c.end_of-end.ensures)
