@@ -1,7 +1,7 @@
 // Runs the vectors that the independent program of tests/ made, and prints how many agree for each outcome, and how many differ.
 #![tactic(auto)]
 
-ghost use Rattle.std.specs.Prelude.{◌<◌, length, IfOk};
+ghost use Rattle.std.specs.Prelude.{◌<◌, length};
 ghost use Rattle.io.specs.Counts.{IsPrefixLen};
 ghost use Rattle.vectors.specs.Numbers.{Onward};
 
@@ -40,45 +40,44 @@ fn run_all(which: u64, s: &[u8], tally: &mut [u64; 393]) {
     }
 }
 
-// As much of the input as there is, and no more than the buffer holds.
-fn read_full(input: &mut (impl Read + Drop), s: &mut [u8]) -> io::Result<usize>
-    ensures { IfOk result (λ n. IsPrefixLen n s.new) }
+// Reads until the buffer is full, the input ends or a read fails, and gives how many bytes it put at the buffer's start.
+fn read_full(input: &mut (impl Read + Drop), s: &mut [u8]) -> usize
+    ensures { IsPrefixLen result s.new }
 {
     let mut n = 0;
     while n < s.len() {
-        let more = input.read(&mut s[n..])?;
-        if more == 0 {
-            return Ok(n);
+        match input.read(&mut s[n..]) {
+            Ok(0) => return n,
+            Ok(more) => n += more,
+            Err(_) => return n,
         }
-        n += more;
     }
-    Ok(n)
+    n
 }
 
 // A file that cannot be opened has no vectors, and the counts say so.
-fn read_named(rt: &impl Files, name: &str, s: &mut [u8]) -> io::Result<usize>
-    ensures { IfOk result (λ n. IsPrefixLen n s.new) }
+fn read_named(rt: &impl Files, name: &str, s: &mut [u8]) -> usize
+    ensures { IsPrefixLen result s.new }
 {
     match fs::open(rt, name) {
         Ok(mut file) => read_full(&mut file, s),
-        Err(_) => Ok(0),
+        Err(_) => 0,
     }
 }
 
 // The maker holds each file to at most 150,000 bytes.
-fn run_named(rt: &impl Files, name: &str, which: u64, tally: &mut [u64; 393]) -> io::Result<()> {
+fn run_named(rt: &impl Files, name: &str, which: u64, tally: &mut [u64; 393]) {
     let mut s = [0u8; 150000];
-    let n = read_named(rt, name, &mut s)?;
+    let n = read_named(rt, name, &mut s);
     run_all(which, &s[..n], tally);
-    Ok(())
 }
 
 fn main(rt: HostRuntime) -> io::Result<()> {
     let mut tally = [0u64; 393];
-    run_named(&rt, "files.bin", 0, &mut tally)?;
-    run_named(&rt, "requests.bin", 1, &mut tally)?;
-    run_named(&rt, "listings.bin", 2, &mut tally)?;
-    run_named(&rt, "tables.bin", 3, &mut tally)?;
+    run_named(&rt, "files.bin", 0, &mut tally);
+    run_named(&rt, "requests.bin", 1, &mut tally);
+    run_named(&rt, "listings.bin", 2, &mut tally);
+    run_named(&rt, "tables.bin", 3, &mut tally);
     show_counts(&rt, tally)?;
     show_differences(&rt, tally)
 }
