@@ -1,4 +1,4 @@
--- What a writing computes with, in one place: whoever unfolds `writing-opened` unfolds all that it names.
+-- What a writing computes with, in one place: whoever unfolds `writing_opened` unfolds all that it names.
 -- Assumes nothing.
 use Prim.Native.Nat.{ℕ}
 use Rattle.sets.specs.Sets.{has}

@@ -1,4 +1,4 @@
--- What a reading computes with, in one place: whoever unfolds `reading-opened` unfolds all that it names.
+-- What a reading computes with, in one place: whoever unfolds `reading_opened` unfolds all that it names.
 -- Assumes nothing.
 use Prim.Native.Nat.{ℕ}
 use Rattle.ranges.proofs.Opened.{ranges_opened}

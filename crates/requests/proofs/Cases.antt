@@ -15,7 +15,7 @@ use Rattle.requests.specs.Requests.{decide}
 use Rattle.requests.specs.Examples.{F, chain, Case}
 use Rattle.requests.specs.Cases.{cases}
 
--- ---- what a decision computes with, in one place: whoever unfolds `rules-opened` unfolds all that it names
+-- ---- what a decision computes with, in one place: whoever unfolds `rules_opened` unfolds all that it names
 
 members_opened : ℕ
 unfolding user_view permission_view covers satisfied unknown covered granted assign_rules revoke_rules with_role without_role

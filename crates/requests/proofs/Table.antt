@@ -1,4 +1,4 @@
--- The code's constant table: it says what `mayGive` says, by one test computed over all its rows; and how the code looks a row up.
+-- The code's constant table: it says what `may_give` says, by one test computed over all its rows; and how the code looks a row up.
 -- Assumes nothing.
 use mathlib.Core.Path.{◌≡◌, refl, sym, ap, ◌∙◌}
 use mathlib.Core.Logic.{⊎_elim}
