@@ -56,11 +56,14 @@ fn read_groups(s: &[u8], at: usize) -> Groups
     Groups { last, value, scale }
 }
 
+// The place of a number's first byte among its bytes.
+const FIRST: usize = 0;
+
 // Is the last byte b, with n before it, a group of nothing that the shortest form leaves out?
 fn is_long(n: usize, b: u64) -> bool
     ensures { result ≡ is_long n b }
 {
-    0 < n && b == 0
+    FIRST < n && b == 0
 }
 
 // Does the last byte b, with n before it, hold a bit past the 64th? Nine groups hold 63 bits.

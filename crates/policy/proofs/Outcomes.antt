@@ -1,5 +1,5 @@
 -- The laws of refusals in their order. "First that holds, in this order."
---   first-that-holds   the set by which every return of a function that answers the first refusal is proved
+--   first_that_holds   the set by which every return of a function that answers the first refusal is proved
 --   passed             where a request is accepted, the condition of each number does not hold
 --   answer-..          the answer to a request, by its outcome
 -- Assumes nothing.
@@ -42,7 +42,7 @@ module _ {b t : Bool} (e : t ≡ b) where
   pub denied_false : not t ≡ false → b ≡ true
   denied_false h = sym e ∙ not-false t h
 
--- Every return of a flat list of tests, each a function whose contract is its condition: `search first-that-holds depth 12`. It reads what each
+-- Every return of a flat list of tests, each a function whose contract is its condition: `search first_that_holds depth 12`. It reads what each
 -- test found by itself, so a test that is added or moved changes no line. Past some ten tests the search meets its bound: cut the list in two.
 pub ruleset first_that_holds = (first_here, first_next, first_none, neg_i, neg_fails, asked_true, asked_false, denied_true, denied_false, eq-eqb, ne_eqb)
 

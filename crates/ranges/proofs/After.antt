@@ -1,9 +1,9 @@
 -- The check of all rows after a change: what the loops compare, and that number 9 is what they find.
---   same_at, same-wider     where a role stands to another as before
+--   same_at, same_wider     where a role stands to another as before
 --   row_before              what is known of one of the rows
---   ends-kept, members_kept, clear_of    the three parts of a row that is kept
---   cut_later, cut-found    two ranges that overlap in part, found in their sets
---   after-row, after-stays, after-pair   number 9, by what is found
+--   ends_kept, members_kept, clear_of    the three parts of a row that is kept
+--   cut_later, cut_found    two ranges that overlap in part, found in their sets
+--   after_row, after_stays, after_pair   number 9, by what is found
 -- Assumes nothing.
 use mathlib.Core.Path.{◌≡◌, refl, sym, ap, ◌∙◌}
 use mathlib.Core.Bool.{Bool, true, false}

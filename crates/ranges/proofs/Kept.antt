@@ -1,8 +1,8 @@
 -- A row that a change leaves is encapsulated after it exactly if the roles that are new in its range are parted by its ends.
 -- Of a role r that was in use and is in the range after, and a role s in use outside it: r was in the range before. If s was in use, it was outside
 -- the range before, and stood to r as the ends did; if not, it stood to none, and is neither end. s is in no difference, so all this still holds.
---   fresh-parted   the law
---   kept-fails     so the row fails exactly if a new role is not parted.        none-fresh   with no new role it does not fail
+--   fresh_parted   the law
+--   kept_fails     so the row fails exactly if a new role is not parted.        none_fresh   with no new role it does not fail
 -- Assumes nothing.
 use mathlib.Core.Path.{◌≡◌, sym, ap, ◌∙◌}
 use mathlib.Core.Bool.{Bool, true, false}

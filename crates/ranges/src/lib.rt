@@ -229,7 +229,7 @@ fn failing_row(rows: &[ModifyRow], look: Look, used: u64, juniors: &[u64], senio
     i
 }
 
-// The same of the first rows of an array by value, which lends them: its callers have no record lent, and no walk to prove.
+// The same of the first rows of an array by value, which lends them.
 pub fn first_failing(
     rows: [ModifyRow; 64],
     count: usize,

@@ -5,10 +5,10 @@ use Rattle.sets.proofs.Tests.{and_given, and_fails_l}
 use Rattle.number.specs.Number.{is_long}
 use Rattle.number.proofs.is_long.Goals as goal
 
-pub returns-then-n-gt0 : goal.returns-then-n-gt0
+pub returns-then-n-gt-FIRST : goal.returns-then-n-gt-FIRST
 unfolding is_long
-returns-then-n-gt0 c = sym (and_given _ _ (lt-ltb 0 c.args.n (omega arith)))
+returns-then-n-gt-FIRST c = sym (and_given _ _ (lt-ltb 0 c.args.n (omega arith)))
 
-pub returns-else-n-gt0 : goal.returns-else-n-gt0
+pub returns-else-n-gt-FIRST : goal.returns-else-n-gt-FIRST
 unfolding is_long
-returns-else-n-gt0 c = let e = le-ltb 0 c.args.n (omega arith) in e ∙ sym (and_fails_l _ _ e)
+returns-else-n-gt-FIRST c = let e = le-ltb 0 c.args.n (omega arith) in e ∙ sym (and_fails_l _ _ e)
