@@ -3,6 +3,7 @@
 use Rattle.std.specs.Prelude.{ℕ, ◌≡◌, List, eqb, ltb, length}
 use Rattle.sets.specs.Tests.{pick}
 use Rattle.policy.specs.declared.Orders.{Orders}
+use Rattle.policy.specs.declared.Policy.{Policy}
 use Rattle.policy.specs.declared.Ranges.{Ranges}
 use Rattle.policy.specs.Build.{empty_policy}
 use Rattle.number.specs.Number.{tested}
@@ -42,6 +43,13 @@ join_front one o p u m =
       how = in_turn one (in_turn o.how (in_turn p.how (in_turn u.how m.how)));
       front = front o.order p.order u.people m.members;
     }
+
+-- what stands in a policy before its tables, and the same with how its reading ended
+abbrev pub front_of : Policy → Front
+front_of p = record { orders = p.orders; people = p.people; permissions = p.permissions }
+
+abbrev pub front_read : Ended → Policy → FrontRead
+front_read h p = record { how = h; front = front_of p }
 
 -- what is answered of the sections before the tables: all of it, or the refusal alone
 unfoldable pub FrontGiven : Step Front → FrontRead → Type 0

@@ -3,20 +3,18 @@
 
 ghost use Rattle.std.specs.Prelude.{◌≡◌, ◌≤◌};
 ghost use Rattle.sections.specs.Numbers.{ended_by};
-ghost use Rattle.reading.specs.File.{front, front_at, places, file_at, read_policy};
-ghost use Rattle.reading.specs.Joined.{is_one, in_turn, join_front, rest_end, how_of, judged};
+ghost use Rattle.reading.specs.File.{front_at, places, file_at, read_policy};
+ghost use Rattle.reading.specs.Joined.{is_one, in_turn, front_of, front_read, how_of};
 ghost use Rattle.reading.specs.Joined.{FrontGiven, rest_on, RestGiven, FileGiven, nothing_read};
 
 use faults::fault;
 use number::Num;
-use order::Order;
-use policy::{Members, Orders, People, Policy, Ranges, Tables, empty_policy};
+use policy::{Members, Orders, People, Policy, Ranges, empty_policy};
 use reader::{
     Reader, next_members, next_number, next_order, next_people, next_ranges, next_table, past,
     start,
 };
-use rows::{RangesRead, TableRead};
-use sections::{Ended, MembersRead, OrderRead, PeopleRead, ended_by};
+use sections::{Ended, ended_by};
 
 // The numbers that roles and administrative roles can have, as sets.
 const ROLES: u64 = 0xFFFF_FFFF_FFFF_FFFF;
@@ -31,6 +29,7 @@ pub struct Front {
     pub permissions: Members,
 }
 
+// The same with how its reading ends, for the contracts: the code reads it into the policy that it is to stand in.
 #[derive(Clone, Copy)]
 pub struct FrontRead {
     pub how: Ended,
@@ -93,34 +92,11 @@ fn in_turn(first: Ended, then: Ended) -> Ended
     }
 }
 
-fn make_front(roles: Order, admins: Order, people: People, permissions: Members) -> Front
-    ensures { result ≡ front roles admins people permissions }
-{
-    Front {
-        orders: Orders { roles, admins },
-        people,
-        permissions,
-    }
-}
-
-// What was read before the tables: where a section is refused nobody looks at more than `how`.
-fn join_front(one: Ended, o: OrderRead, p: OrderRead, u: PeopleRead, m: MembersRead) -> FrontRead
-    ensures { result ≡ join_front one o p u m }
-{
-    let ho = o.how;
-    let hp = p.how;
-    let hu = u.how;
-    let hm = m.how;
-    let how = in_turn(one, in_turn(ho, in_turn(hp, in_turn(hu, hm))));
-    FrontRead {
-        how,
-        front: make_front(o.order, p.order, u.people, m.members),
-    }
-}
-
-// The first number, both orders, users and permissions: the reader goes from each to the next.
-fn read_front<'a>(r: Reader<'a>) -> FrontRead
-    ensures { FrontGiven (front_at r.entry.bytes.now r.entry.at) result }
+// The first number, both orders, users and permissions, each into its place in the policy: the reader goes from each to the next. It is not inlined, so
+// that the sections that it holds on the way are off the stack before the tables are read.
+#[inline(never)]
+fn read_front<'a>(r: Reader<'a>, policy: &mut Policy) -> Ended
+    ensures { FrontGiven (front_at r.entry.bytes.now r.entry.at) (front_read result policy.new) }
 {
     let n = next_number(r);
     let one = first_end(n, r.at);
@@ -132,7 +108,11 @@ fn read_front<'a>(r: Reader<'a>) -> FrontRead
     let u = next_people(c, o.order.used, p.order.used);
     let d = past(c, u.how);
     let m = next_members(d, o.order.used);
-    join_front(one, o, p, u, m)
+    policy.orders.roles = o.order;
+    policy.orders.admins = p.order;
+    policy.people = u.people;
+    policy.permissions = m.members;
+    in_turn(one, in_turn(o.how, in_turn(p.how, in_turn(u.how, m.how))))
 }
 
 fn make_places(a: usize, b: usize, c: usize, d: usize, e: usize, end: usize) -> Places
@@ -146,18 +126,6 @@ fn make_places(a: usize, b: usize, c: usize, d: usize, e: usize, end: usize) -> 
         modify: e,
         end,
     }
-}
-
-// How the five tables end, one after the other.
-fn rest_end(ta: TableRead, tr: TableRead, tp: TableRead, tq: TableRead, tm: RangesRead) -> Ended
-    ensures { result ≡ rest_end ta tr tp tq tm }
-{
-    let ha = ta.how;
-    let hr = tr.how;
-    let hp = tp.how;
-    let hq = tq.how;
-    let hm = tm.how;
-    in_turn(ha, in_turn(hr, in_turn(hp, in_turn(hq, hm))))
 }
 
 // How the reading ends: the first refusal of a section, else 27, else 23 to 26, else it is accepted.
@@ -178,62 +146,14 @@ fn how_of(s: &[u8], end: usize, how: Ended, orders: Orders, modify: Ranges) -> H
     How::Accepted
 }
 
-// What was read, put together: where it is refused nobody looks at more than `how`.
-fn judged(
-    s: &[u8],
-    f: FrontRead,
-    ta: TableRead,
-    tr: TableRead,
-    tp: TableRead,
-    tq: TableRead,
-    tm: RangesRead,
-    places: Places,
-) -> FileRead
-    requires { tm.ranges.count ≤ 64 }
-    ensures { result ≡ judged s.now f ta tr tp tq tm places }
+// The five tables, each into its place in the file, and how the whole ends: what stands before them is there, and ended so. Where the file is refused
+// nobody looks at more than `how`. It is not inlined, as read_front is not.
+#[inline(never)]
+fn read_rest<'a>(r: Reader<'a>, before: Ended, file: &mut FileRead)
+    ensures { RestGiven before (rest_on r.entry.bytes.now r.entry.at (front_of file.old.policy)) file.new }
 {
-    let before = f.how;
-    let end = places.end;
-    let front = f.front;
-    let orders = front.orders;
-    let modify = tm.ranges;
-    let how = how_of(
-        s,
-        end,
-        in_turn(before, rest_end(ta, tr, tp, tq, tm)),
-        orders,
-        modify,
-    );
-    let people = front.people;
-    let permissions = front.permissions;
-    let assign = ta.table;
-    let revoke = tr.table;
-    let assignp = tp.table;
-    let revokep = tq.table;
-    FileRead {
-        how,
-        policy: Policy {
-            orders,
-            people,
-            permissions,
-            tables: Tables {
-                assign,
-                revoke,
-                assignp,
-                revokep,
-            },
-            modify,
-        },
-        places,
-    }
-}
-
-// The five tables, and the whole with what stands before them: the reader goes from each to the next.
-fn read_rest<'a>(r: Reader<'a>, f: FrontRead) -> FileRead
-    ensures { RestGiven f.how (rest_on r.entry.bytes.now r.entry.at f.front) result }
-{
-    let roles = f.front.orders.roles.used;
-    let admins = f.front.orders.admins.used;
+    let roles = file.policy.orders.roles.used;
+    let admins = file.policy.orders.admins.used;
     let ta = next_table(r, roles, admins, true);
     let b = past(r, ta.how);
     let tr = next_table(b, roles, admins, false);
@@ -244,8 +164,18 @@ fn read_rest<'a>(r: Reader<'a>, f: FrontRead) -> FileRead
     let e = past(d, tq.how);
     let tm = next_ranges(e, roles, admins);
     let g = past(e, tm.how);
-    let places = make_places(r.at, b.at, c.at, d.at, e.at, g.at);
-    judged(g.bytes, f, ta, tr, tp, tq, tm, places)
+    file.policy.tables.assign = ta.table;
+    file.policy.tables.revoke = tr.table;
+    file.policy.tables.assignp = tp.table;
+    file.policy.tables.revokep = tq.table;
+    file.policy.modify = tm.ranges;
+    file.places = make_places(r.at, b.at, c.at, d.at, e.at, g.at);
+    let tables = in_turn(
+        ta.how,
+        in_turn(tr.how, in_turn(tp.how, in_turn(tq.how, tm.how))),
+    );
+    let how = in_turn(before, tables);
+    file.how = how_of(g.bytes, g.at, how, file.policy.orders, tm.ranges);
 }
 
 // The policy, and where its tables stand: one reader goes through the file.
@@ -253,9 +183,15 @@ pub fn read_file(s: &[u8]) -> FileRead
     ensures { FileGiven (file_at s.now) result }
 {
     let r = start(s);
-    let f = read_front(r);
-    let a = past(r, f.how);
-    read_rest(a, f)
+    let mut file = FileRead {
+        how: How::Accepted,
+        policy: empty_policy(),
+        places: make_places(0, 0, 0, 0, 0, 0),
+    };
+    let before = read_front(r, &mut file.policy);
+    let a = past(r, before);
+    read_rest(a, before, &mut file);
+    file
 }
 
 fn nothing_read(how: How) -> Loaded
