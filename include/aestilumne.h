@@ -91,10 +91,10 @@ enum aestilumne_table_number {
  * for x86-64, derived from the archive, in which the C library's memcpy, memmove and memset count
  * with 1,024 bytes. A thread needs beside it what its own functions take and what the C library
  * keeps on a thread's stack. */
-#define AESTILUMNE_STACK_CHECK 44032
-#define AESTILUMNE_STACK_QUESTION 46080
-#define AESTILUMNE_STACK_TABLE 44032
-#define AESTILUMNE_STACK_REQUEST 78848
+#define AESTILUMNE_STACK_CHECK 31744
+#define AESTILUMNE_STACK_QUESTION 36864
+#define AESTILUMNE_STACK_TABLE 31744
+#define AESTILUMNE_STACK_REQUEST 72704
 #define AESTILUMNE_STACK_LISTING 54272
 
 /* Is this a policy file? Outcome 0 or 20 to 27. */
