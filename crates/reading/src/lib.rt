@@ -136,7 +136,8 @@ fn how_of(s: &[u8], end: usize, how: Ended, orders: Orders, modify: Ranges) -> H
     if let Ended::Stopped(c, p) = how {
         return How::Refused(c, p);
     }
-    if end < s.len() {
+    let left_over = end < s.len();
+    if left_over {
         return How::Refused(27, end);
     }
     let n = fault(orders, modify);

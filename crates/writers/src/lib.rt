@@ -96,7 +96,8 @@ fn write_row(out: &mut [u8], at: usize, assign: bool, row: Row) -> usize
 {
     let a = write_ends(out, at, row.admin, row.low, row.high);
     let b = put_number(out, a, row.brackets as u64);
-    if !assign {
+    let no_sets = !assign;
+    if no_sets {
         return b;
     }
     let c = put_number(out, b, row.needed);
