@@ -1,11 +1,11 @@
 # Sourced by the gate. renamed_goals reads lines of rt ci on edits that leave a goal unanswered,
 #     rt: must-fail CRATE/EDIT.edit: refused, as it must be: note: src/FILE:LINE:..: .. (`GOAL`)..
 # and prints those of which the code without the edit has no such goal, in the function around that line (an edit moves no line). The checker
-# writes which goals the functions of a crate have.
+# writes which goals the functions of a crate have. A line that cannot be taken apart is printed too.
 goals=target/goals
 
 has_goal() {
-    [ -f "$goals/$1/names.json" ] || (here=$PWD && cd "crates/$1" && rt check --generated "$here/$goals/$1" --old-names) >/dev/null
+    [ -f "$goals/$1/names.json" ] || (cd "crates/$1" && rt check --generated "$OLDPWD/$goals/$1" --old-names) >/dev/null </dev/null
     awk -v RS='"Rattle-' -v crate="$1-proofs." -v of="$2" -v goal="\"$3\"]" '
         { split($0, key, "\"") }
         index(key[1], crate) == 1 && key[1] ~ "[.]" of "[.]Lts$" && index($0, goal) { found = 1 }
@@ -15,11 +15,11 @@ has_goal() {
 renamed_goals() {
     rm -rf "$goals"
     while IFS= read -r told; do
-        crate=$(echo "$told" | sed 's|^rt: must-fail \([^/]*\)/.*|\1|')
-        file=$(echo "$told" | sed 's|.*: note: \([^:]*\):.*|\1|')
-        line=$(echo "$told" | sed 's|.*: note: [^:]*:\([0-9]*\):.*|\1|')
-        goal=$(echo "$told" | sed -n 's|.*(`\([^`]*\)`).*|\1|p')
-        function=$(head -n "$line" "crates/$crate/$file" | sed -n 's|^ *\(pub \)\{0,1\}fn \([a-z0-9_]*\).*|\2|p' | tail -n 1)
-        has_goal "$crate" "$function" "$goal" || echo "$told"
+        crate=${told#rt: must-fail }
+        place=${told#*: note: }
+        line=${place#*:}
+        goal=${told##*(\`}
+        function=$(head -n "${line%%:*}" "crates/${crate%%/*}/${place%%:*}" | sed -n 's|^ *\([a-z()]* \)*fn \([a-z0-9_]*\).*|\2|p' | tail -n 1)
+        has_goal "${crate%%/*}" "$function" "${goal%%\`)*}" || echo "$told"
     done
 }

@@ -1,5 +1,5 @@
 -- What was read section by section, put together. Of a refused answer it is said how the reading ended and no more: nobody looks at what else it holds,
--- so that nothing has to be emptied on the way, and the policy with nothing in it is made once, where a policy is asked for.
+-- so that nothing has to be emptied on the way: a refused read's policy with nothing in it is made where a policy is asked for.
 use Rattle.std.specs.Prelude.{ℕ, ◌≡◌, List, eqb, ltb, length}
 use Rattle.sets.specs.Tests.{pick}
 use Rattle.policy.specs.declared.Orders.{Orders}
