@@ -92,10 +92,10 @@ enum aestilumne_table_number {
  * with 1,024 bytes. A thread needs beside it what its own functions take and what the C library
  * keeps on a thread's stack. */
 #define AESTILUMNE_STACK_CHECK 31744
-#define AESTILUMNE_STACK_QUESTION 36864
+#define AESTILUMNE_STACK_QUESTION 32256
 #define AESTILUMNE_STACK_TABLE 31744
 #define AESTILUMNE_STACK_REQUEST 72704
-#define AESTILUMNE_STACK_LISTING 54272
+#define AESTILUMNE_STACK_LISTING 40960
 
 /* Is this a policy file? Outcome 0 or 20 to 27. */
 uint64_t aestilumne_check(const uint8_t *policy, size_t n);

@@ -6,12 +6,12 @@ use mathlib.Core.List.{List}
 use native.Mathlib.Omega.{arith}
 use borrow.Author.Tests.{ne_eqb}
 use lib.Dec.{eqb}
-use Rattle.policy.specs.declared.Answer.{Answer}
+use Rattle.std.specs.Prelude.{Result, Ok, Err}
 use Rattle.policy.specs.declared.Policy.{Policy}
+use Rattle.policy.specs.declared.Refusal.{Refusal}
+use Rattle.policy.proofs.Changes.{number_between}
 use Rattle.policy.specs.Good.{Good}
-use Rattle.policy.specs.Outcome.{accepted}
-use Rattle.writing.specs.declared.Written.{Written}
-use Rattle.writing.specs.declared.Written.TheVariants.{TooShort, Length}
+use Rattle.policy.specs.Outcome.{Answer, number, accepted}
 use Rattle.writing.specs.Writing.{Output, written_outcome, written_length}
 use Rattle.writing.proofs.Outputs.{length_most}
 use Rattle.answers.specs.Answers.{Fields, Fit, fields, packed, apart, refusal, of_written}
@@ -60,7 +60,7 @@ module _ (d : Answer) (o : List ℕ) where
       not_zero : eqb d.outcome 0 ≡ false
       not_zero = ne_eqb _ _ n
 
-module _ (p : Policy) (n : ℕ) (o : List ℕ) {w : Written} {a : List ℕ} (out : Output p o w a) where
+module _ (p : Policy) (n : ℕ) (o : List ℕ) {w : Result ℕ Refusal} {a : List ℕ} (out : Output p o w a) where
   -- the policy after, written
   pub written_carried : {r : ℕ} → r ≡ packed (of_written n w) → CarriedOut (accepted p n) o r a
   unfolding carried_out carried_bytes
@@ -70,6 +70,10 @@ module _ (p : Policy) (n : ℕ) (o : List ℕ) {w : Written} {a : List ℕ} (out
   unfolding written_outcome written_length
   written_fits g below = by w (length_most p o out g)
     where
-      by : (v : Written) → written_length v ≤ 10375 → Fit (of_written n v)
-      by TooShort l = fits (omega arith) (omega arith) (omega arith) (omega arith)
-      by (Length m) l = fits (omega arith) below (omega arith) (omega (arith, l))
+      by : (v : Result ℕ Refusal) → written_length v ≤ 10375 → Fit (of_written n v)
+      by (Ok m) l = fits (omega arith) below (omega arith) (omega (arith, l))
+      by (Err r) l = fits (omega (arith, number_between r)) (omega arith) (omega arith) (omega arith)
+
+-- a refusal fits, since its number does
+pub refusal_fits : (r : Refusal) → Fit (refusal (number r) 0)
+refusal_fits r = fits (omega (arith, number_between r)) (omega arith) (omega arith) (omega arith)

@@ -1,16 +1,14 @@
 -- What an entry answers: one number that holds four, so that a refusal touches no lent memory at all.
-use Rattle.std.specs.Prelude.{ℕ, ◌+◌, ◌*◌, ◌/◌, ◌%◌, ◌<◌}
-use Rattle.policy.specs.declared.Reply.{Reply}
-use Rattle.policy.specs.Question.{reply_outcome, reply_value}
-use Rattle.reading.specs.declared.How.{How}
-use Rattle.reading.specs.declared.How.TheVariants as how
-use Rattle.parts.specs.declared.Part.{Part}
-use Rattle.parts.specs.declared.Part.TheVariants as found
-use Rattle.writing.specs.declared.Written.{Written}
-use Rattle.writing.specs.declared.Written.TheVariants.{TooShort, Length}
+use Rattle.std.specs.Prelude.{ℕ, Bool, Result, Ok, Err, ◌+◌, ◌*◌, ◌/◌, ◌%◌, ◌<◌}
+use Rattle.policy.specs.declared.Refusal.{Refusal}
+use Rattle.policy.specs.Outcome.{outcome_of}
+use Rattle.policy.specs.Question.{reply_value}
+use Rattle.reading.specs.File.{How}
+use Rattle.reading.specs.File as how
+use Rattle.parts.specs.Parts.{Part}
+use Rattle.parts.specs.Parts as found
 use Rattle.writing.specs.Writing.{written_outcome, written_length}
-use Rattle.listing.specs.declared.Listed.{Listed}
-use Rattle.listing.specs.Listing.{listed_outcome, listed_count}
+use Rattle.listing.specs.Listing.{listed_count}
 
 pub record Fields : Type 0 where
   pub outcome : ℕ
@@ -47,18 +45,18 @@ of_file how.Accepted = fields 0 0 0 0
 of_file (how.Refused c p) = refusal c p
 
 -- the number beside acceptance: none where nothing is written
-abbrev pub beside : ℕ → Written → ℕ
-beside n TooShort = 0
-beside n (Length l) = n
+abbrev pub beside : ℕ → Result ℕ Refusal → ℕ
+beside n (Ok l) = n
+beside n (Err r) = 0
 
-abbrev pub of_written : ℕ → Written → Fields
+abbrev pub of_written : ℕ → Result ℕ Refusal → Fields
 of_written n w = fields (written_outcome w) (beside n w) 0 (written_length w)
 
-abbrev pub of_listed : Listed → Fields
-of_listed l = fields (listed_outcome l) 0 0 (listed_count l)
+abbrev pub of_listed : Result ℕ Refusal → Fields
+of_listed l = fields (outcome_of l) 0 0 (listed_count l)
 
-abbrev pub of_reply : Reply → Fields
-of_reply y = fields (reply_outcome y) (reply_value y) 0 0
+abbrev pub of_reply : Result Bool Refusal → Fields
+of_reply y = fields (outcome_of y) (reply_value y) 0 0
 
 abbrev pub of_part : Part → Fields
 of_part (found.Found start len) = fields 0 0 start len

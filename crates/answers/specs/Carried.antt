@@ -1,7 +1,7 @@
 -- A request that was decided, carried out: "Read, request, write: the first refusal is returned, with length 0."
 use Rattle.std.specs.Prelude.{ℕ, ◌≡◌, List, eqb}
 use Rattle.sets.specs.Tests.{pick}
-use Rattle.policy.specs.declared.Answer.{Answer}
+use Rattle.policy.specs.Outcome.{Answer}
 use Rattle.writing.specs.Writing.{answer_of, bytes_after}
 use Rattle.answers.specs.Answers.{Fields, packed, refusal, of_written}
 

@@ -1,6 +1,5 @@
-// The policies that the cases start from: 0 F, 1 case 13's chain, 2 F after u2 was put in PE1, 3 all 64 roles, 4 the same after role 7 was
-// deleted, 5 and 6 chains of four, 7 a network of two lines, 8 the department with permissions.
-ghost use Rattle.std.specs.Prelude.{◌≡◌, [], ◌∷◌, ◌++◌, ◌≤◌, length, drop};
+// The policies that the cases start from.
+ghost use Rattle.std.specs.Prelude.{◌≡◌, [], ◌∷◌, ◌≤◌, length};
 ghost use Rattle.ranges.specs.Rows.{no_row};
 ghost use Rattle.policy.specs.Build.{empty_row, empty_members, empty_tables};
 ghost use Rattle.requests.specs.Examples.{padded, order_of, members_of, modify_row, department, F};
@@ -9,20 +8,28 @@ use crate::asking::ask;
 use order::Order;
 use policy::{
     Members, Orders, People, Policy, Ranges, Row, Table, Tables, empty_policy, empty_ranges,
-    empty_table, with_permissions,
+    empty_table,
 };
 use ranges::{AdminId, ModifyRow, RoleId};
 
-// The callers pad with zeros, so what stands in `to` past the elements of `from` stays.
-fn copy(from: &[u64], to: &mut [u64])
-    requires { length from.now ≤ length to.old }
-    ensures { to.new ≡ from.now ++ drop (length from.now) to.old }
-{
-    let mut i = 0;
-    while i < from.len() {
-        to[i] = from[i];
-        i += 1;
-    }
+#[derive(Clone, Copy)]
+pub enum Start {
+    // document 01's department, F
+    Department,
+    // case 13's chain
+    Chain,
+    // the department after user 2 was put in PE1
+    Joined,
+    // all 64 roles, and the same after role 7 was deleted
+    Full,
+    Freed,
+    // a chain of four with two ranges that would overlap, and one with a range that would lose its order
+    Overlapping,
+    Lowered,
+    // a network of two lines
+    Network,
+    // the department with rows in all tables and with permissions
+    Permissions,
 }
 
 // An order of the first numbers, each with the set of its juniors.
@@ -31,7 +38,7 @@ fn order_of(used: u64, firsts: &[u64]) -> Order
     ensures { result ≡ order_of used firsts.now }
 {
     let mut juniors = [0u64; 64];
-    copy(firsts, &mut juniors);
+    juniors[..firsts.len()].copy_from_slice(firsts);
     Order { used, juniors }
 }
 
@@ -41,7 +48,7 @@ fn members_of(firsts: &[u64]) -> Members
     ensures { result ≡ members_of firsts.now }
 {
     let mut roles = [0u64; 256];
-    copy(firsts, &mut roles);
+    roles[..firsts.len()].copy_from_slice(firsts);
     Members {
         count: firsts.len(),
         roles,
@@ -54,7 +61,7 @@ fn people_of(users: Members, firsts: &[u64]) -> People
     ensures { result ≡ record { users = users; offices = padded 256 0 firsts.now } }
 {
     let mut offices = [0u64; 256];
-    copy(firsts, &mut offices);
+    offices[..firsts.len()].copy_from_slice(firsts);
     People { users, offices }
 }
 
@@ -97,28 +104,16 @@ fn ranges_of(count: usize, a: ModifyRow, b: ModifyRow, c: ModifyRow) -> Ranges
     modify
 }
 
-fn no_tables() -> Tables
-    ensures { result ≡ empty_tables }
+// A policy with no other tables and no permissions.
+fn policy_from(orders: Orders, people: People, modify: Ranges) -> Policy
+    ensures { result ≡ record { orders = orders; people = people; permissions = empty_members; tables = empty_tables; modify = modify } }
 {
-    let none = empty_table();
-    Tables {
-        assign: none,
-        revoke: none,
-        assignp: none,
-        revokep: none,
+    Policy {
+        orders,
+        people,
+        modify,
+        ..empty_policy()
     }
-}
-
-// A policy with no permissions.
-fn policy_from(orders: Orders, people: People, tables: Tables, modify: Ranges) -> Policy
-    ensures { result ≡ record { orders = orders; people = people; permissions = empty_members; tables = tables; modify = modify } }
-{
-    let mut p = empty_policy();
-    p.orders = orders;
-    p.people = people;
-    p.tables = tables;
-    p.modify = modify;
-    p
 }
 
 // Document 01's department: roles and SSO > DSO > PSO1.
@@ -148,9 +143,9 @@ fn department_policy() -> Policy
 {
     let users = members_of(&[0, 0, 2]);
     let people = people_of(users, &[4, 2, 0]);
-    let mut tables = no_tables();
-    tables.assign = one_row(2, 5, 1, 2, 0);
-    policy_from(department_orders(), people, tables, department_ranges())
+    let mut p = policy_from(department_orders(), people, department_ranges());
+    p.tables.assign = one_row(2, 5, 1, 2, 0);
+    p
 }
 
 // The department's users and three more: u3 in PE1, u4 in PE1 and PL2, u5 in E1 and PE1.
@@ -171,25 +166,17 @@ fn member_tables() -> Tables {
 
 // The department with rows in all tables and with permissions: p0 in QE1, p1 in PE2, p2 in PL1, p3 in QE1 and QE2, p4 in QE1 and PL2.
 fn member_policy() -> Policy {
-    let p = policy_from(
-        department_orders(),
-        member_people(),
-        member_tables(),
-        department_ranges(),
-    );
-    with_permissions(p, members_of(&[16, 128, 32, 272, 528]))
+    Policy {
+        tables: member_tables(),
+        permissions: members_of(&[16, 128, 32, 272, 528]),
+        ..policy_from(department_orders(), member_people(), department_ranges())
+    }
 }
 
 // One administrative role, 0, held by the one user.
 fn one_officer(roles: Order) -> Orders {
     let admins = order_of(1, &[0]);
     Orders { roles, admins }
-}
-
-fn officer_policy(roles: Order, modify: Ranges) -> Policy {
-    let users = members_of(&[0]);
-    let people = people_of(users, &[1]);
-    policy_from(one_officer(roles), people, no_tables(), modify)
 }
 
 // A network: line 4 has the roles 1 to 3, line 7 has 4 to 6, and both lie between 0 and 7, the department's head. The department's
@@ -213,7 +200,7 @@ fn network_ranges() -> Ranges {
 fn network_policy() -> Policy {
     let users = members_of(&[0, 0, 0]);
     let people = people_of(users, &[1, 2, 4]);
-    policy_from(network_orders(), people, no_tables(), network_ranges())
+    policy_from(network_orders(), people, network_ranges())
 }
 
 // All 64 roles: 0 below, 63 on top, the others side by side between them.
@@ -227,50 +214,51 @@ fn full_order() -> Order {
     }
 }
 
-// The roles of policies 1, 3, 5 and 6: case 13's chain, all 64, and a chain of four.
-fn roles_of(id: u64) -> Order {
-    match id {
-        1 => order_of(31, &[0, 1, 3, 7, 15]),
-        3 => full_order(),
-        _ => order_of(15, &[0, 1, 3, 7]),
+// One officer with at most two ranges, and no other table.
+fn officer_policy(roles: Order, count: usize, first: ModifyRow, second: ModifyRow) -> Policy {
+    let users = members_of(&[0]);
+    let people = people_of(users, &[1]);
+    let modify = ranges_of(count, first, second, modify_row(0, 0, 0));
+    policy_from(one_officer(roles), people, modify)
+}
+
+fn full_policy() -> Policy {
+    officer_policy(full_order(), 1, modify_row(0, 0, 63), modify_row(0, 0, 0))
+}
+
+// Case 13's chain.
+fn chain_policy() -> Policy {
+    let roles = order_of(31, &[0, 1, 3, 7, 15]);
+    officer_policy(roles, 2, modify_row(0, 0, 2), modify_row(0, 1, 4))
+}
+
+// A chain of four roles with two ranges.
+fn chain_of_four(first: ModifyRow, second: ModifyRow) -> Policy {
+    let roles = order_of(15, &[0, 1, 3, 7]);
+    officer_policy(roles, 2, first, second)
+}
+
+// A policy after a request of user 0, which is accepted.
+fn policy_after(before: Policy, kind: u64, a: u64, b: u64) -> Policy {
+    match ask(before, 0, kind, a, b) {
+        Ok(done) => done.policy,
+        Err(_) => before,
     }
 }
 
-// Their can-modify rows.
-fn modify_of(id: u64) -> Ranges {
-    let none = modify_row(0, 0, 0);
-    match id {
-        1 => ranges_of(2, modify_row(0, 0, 2), modify_row(0, 1, 4), none),
-        3 => ranges_of(1, modify_row(0, 0, 63), none, none),
-        5 => ranges_of(2, modify_row(0, 0, 2), modify_row(0, 1, 3), none),
-        _ => ranges_of(2, modify_row(0, 0, 3), modify_row(0, 1, 2), none),
-    }
-}
-
-fn policy_before(id: u64) -> Policy
-    ensures { id ≡ 0 → result ≡ F }
+// Two of them come by asking, so that no table here repeats an effect.
+pub fn policy_of(start: Start) -> Policy
+    ensures { start ≡ Start.Department → result ≡ F }
 {
-    match id {
-        0 => department_policy(),
-        7 => network_policy(),
-        8 => member_policy(),
-        _ => officer_policy(roles_of(id), modify_of(id)),
-    }
-}
-
-// A policy after a request of user 0.
-fn policy_after(id: u64, kind: u64, a: u64, b: u64) -> Policy {
-    let answer = ask(policy_before(id), 0, kind, a, b);
-    answer.policy
-}
-
-// Policies 2 and 4 come by asking, so that no table here repeats an effect.
-pub fn policy_of(id: u64) -> Policy
-    ensures { id ≡ 0 → result ≡ F }
-{
-    match id {
-        2 => policy_after(0, 1, 2, 3),
-        4 => policy_after(3, 6, 7, 0),
-        _ => policy_before(id),
+    match start {
+        Start::Department => department_policy(),
+        Start::Chain => chain_policy(),
+        Start::Joined => policy_after(department_policy(), 1, 2, 3),
+        Start::Full => full_policy(),
+        Start::Freed => policy_after(full_policy(), 6, 7, 0),
+        Start::Overlapping => chain_of_four(modify_row(0, 0, 2), modify_row(0, 1, 3)),
+        Start::Lowered => chain_of_four(modify_row(0, 0, 3), modify_row(0, 1, 2)),
+        Start::Network => network_policy(),
+        Start::Permissions => member_policy(),
     }
 }

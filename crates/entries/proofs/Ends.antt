@@ -3,33 +3,36 @@
 use Prim.Native.Nat.{ℕ, ◌*◌, ◌≤◌, ◌<◌}
 use mathlib.Core.Path.{◌≡◌, refl, sym, ap, ◌∙◌}
 use mathlib.Core.Logic.{⊎_elim}
-use mathlib.Core.Bool.{true, false}
+use mathlib.Core.Bool.{Bool, true, false}
 use mathlib.Core.List.{List}
 use native.Mathlib.Omega.{arith}
 use borrow.Author.Tests.{ne_eqb, le-leb, lt-leb, lt-ltb, le-ltb}
 use lib.ListN.{length}
 use lib.Seq.{sets}
+use Rattle.sets.specs.Tests.{pick}
 use Rattle.sets.proofs.Digits.{lt_or_le}
 use Rattle.policy.specs.declared.Policy.{Policy}
-use Rattle.policy.specs.declared.Answer.{Answer}
-use Rattle.policy.specs.declared.Reply.{Reply}
-use Rattle.policy.specs.declared.Reply.TheVariants as reply
-use Rattle.policy.specs.Question.{question, reply_outcome, reply_value}
+use Rattle.policy.specs.Outcome.{Answer}
+use Rattle.std.specs.Prelude.{Result, Ok, Err}
+use Rattle.policy.specs.declared.Refusal.{Refusal}
+use Rattle.policy.specs.declared.Refusal.TheVariants.{UnknownName}
+use Rattle.policy.proofs.Changes.{number_between}
+use Rattle.policy.specs.Question.{question, reply_value}
 use Rattle.requests.specs.declared.Request.{Request}
 use Rattle.requests.specs.Requests.{decide}
-use Rattle.reading.specs.declared.How.{How}
-use Rattle.reading.specs.declared.How.TheVariants.{Accepted, Refused}
+use Rattle.reading.specs.File.{How}
+use Rattle.reading.specs.File.{Accepted, Refused}
 use Rattle.reading.specs.File.{read_policy}
-use Rattle.parts.specs.declared.Part.{Part}
-use Rattle.parts.specs.declared.Part.TheVariants as found
+use Rattle.reading.proofs.Theorems.{accepted_good}
+use Rattle.parts.specs.Parts.{Part}
+use Rattle.parts.specs.Parts as found
 use Rattle.parts.specs.Parts.{is_table, part_at}
 use Rattle.parts.proofs.Theorems.{part_refused}
 use Rattle.layout.specs.Layout.{policy_bytes}
 use Rattle.layout.proofs.Most.{always_enough}
 use Rattle.writing.specs.Writing.{written_outcome, written_length}
 use Rattle.writing.proofs.Outputs.{short_answer, short_bytes, long_answer, long_bytes}
-use Rattle.listing.specs.declared.Listed.TheVariants.{Unknown}
-use Rattle.listing.specs.Listing.{entry_count, listed, filled, listed_outcome, listed_count}
+use Rattle.listing.specs.Listing.{entry_count, listed, filled, listed_count}
 use Rattle.listing.specs.Listing as listing
 use Rattle.listing.proofs.Promised.{enough}
 use Rattle.answers.specs.Answers.{Fit, fields, apart, refusal, of_file, of_reply, of_part}
@@ -68,11 +71,11 @@ pub data ListEnds (s : List ℕ) (officer : ℕ) (o : List ℕ) (r : ℕ) (a : L
 
 pub data QuestionEnds (s : List ℕ) (user permission : ℕ) (r : ℕ) : Type 0 where
   bad_file : {c p : ℕ} → (read_policy s).how ≡ Refused c p → apart r ≡ refusal c p → QuestionEnds s user permission r
-  unknown : (read_policy s).how ≡ Accepted → question (read_policy s).policy user permission ≡ reply.Unknown
+  unknown : (read_policy s).how ≡ Accepted → question (read_policy s).policy user permission ≡ Err UnknownName
       → apart r ≡ refusal 2 0 → QuestionEnds s user permission r
-  yes : (read_policy s).how ≡ Accepted → question (read_policy s).policy user permission ≡ reply.Yes → apart r ≡ fields 0 1 0 0
+  yes : (read_policy s).how ≡ Accepted → question (read_policy s).policy user permission ≡ Ok true → apart r ≡ fields 0 1 0 0
       → QuestionEnds s user permission r
-  no : (read_policy s).how ≡ Accepted → question (read_policy s).policy user permission ≡ reply.No → apart r ≡ fields 0 0 0 0
+  no : (read_policy s).how ≡ Accepted → question (read_policy s).policy user permission ≡ Ok false → apart r ≡ fields 0 0 0 0
       → QuestionEnds s user permission r
 
 pub data TableEnds (s : List ℕ) (k : ℕ) (r : ℕ) : Type 0 where
@@ -84,7 +87,7 @@ pub data TableEnds (s : List ℕ) (k : ℕ) (r : ℕ) : Type 0 where
 
 module _ (s : List ℕ) where
   how_fits : {h : How} → (read_policy s).how ≡ h → Fit (of_file h)
-  how_fits q = rw q at (file_fits s {l = read_policy s} refl)
+  how_fits q = rw q at (file_fits s (read_policy s).how refl)
 
   pub check_ends : {r : ℕ} → CheckOf s r → CheckEnds s r
   check_ends {r} w = by (read_policy s).how refl
@@ -108,7 +111,7 @@ module _ (s : List ℕ) where
 
     module _ (q : (read_policy s).how ≡ Accepted) where
       fit : Ready d
-      fit = ready s {l = read_policy s} refl q x refl
+      fit = ready (read_policy s).policy (accepted_good s q) x refl
 
       request_refused : (d.outcome ≡ 0 → ⊥) → RequestEnds s x o r a
       unfolding request_fields request_bytes carried_out carried_bytes
@@ -156,13 +159,13 @@ module _ (s : List ℕ) where
 
     module _ (q : (read_policy s).how ≡ Accepted) where
       list_unknown : p.people.users.count ≤ officer → ListEnds s officer o r a
-      unfolding listing_fields listing_bytes listed filled listed_outcome listed_count
+      unfolding listing_fields listing_bytes listed filled listed_count
       list_unknown l =
           let z = le-leb _ _ l in
           unknown q refl l (answered _ (fits (omega arith) (omega arith) (omega arith) (omega arith)) w.answer (rw (q, z))) (w.bytes ∙ rw (q, z))
 
       list_short : officer < p.people.users.count → length o < 3 * entry_count p officer → ListEnds s officer o r a
-      unfolding listing_fields listing_bytes listed filled listed_outcome listed_count
+      unfolding listing_fields listing_bytes listed filled listed_count
       list_short k l =
           let y = lt-leb _ _ k in
           let z = lt-ltb _ _ l in
@@ -170,7 +173,7 @@ module _ (s : List ℕ) where
           (w.bytes ∙ rw (q, y, z))
 
       list_done : officer < p.people.users.count → 3 * entry_count p officer ≤ length o → ListEnds s officer o r a
-      unfolding listing_fields listing_bytes listed filled listed_outcome listed_count
+      unfolding listing_fields listing_bytes listed filled listed_count
       list_done k l =
           let y = lt-leb _ _ k in
           let z = le-ltb _ _ l in
@@ -191,31 +194,40 @@ module _ (s : List ℕ) where
   -- ---- the question
 
   module _ (user permission : ℕ) {r : ℕ} (w : QuestionOf s user permission r) where
-    asked : Reply
+    asked : Result Bool Refusal
     asked = question (read_policy s).policy user permission
 
     question_bad : {c p : ℕ} → (read_policy s).how ≡ Refused c p → QuestionEnds s user permission r
     unfolding question_fields
     question_bad q = bad_file q (answered _ (how_fits q) w.answer (rw q))
 
-    reply_fits : (y : Reply) → Fit (of_reply y)
-    unfolding reply_outcome reply_value
-    reply_fits reply.Unknown = fits (omega arith) (omega arith) (omega arith) (omega arith)
-    reply_fits reply.Yes = fits (omega arith) (omega arith) (omega arith) (omega arith)
-    reply_fits reply.No = fits (omega arith) (omega arith) (omega arith) (omega arith)
+    reply_fits : (y : Result Bool Refusal) → Fit (of_reply y)
+    unfolding reply_value
+    reply_fits (Err n) = fits (omega (arith, number_between n)) (omega arith) (omega arith) (omega arith)
+    reply_fits (Ok true) = fits (omega arith) (omega arith) (omega arith) (omega arith)
+    reply_fits (Ok false) = fits (omega arith) (omega arith) (omega arith) (omega arith)
 
-    question_good : (read_policy s).how ≡ Accepted → {y : Reply} → asked ≡ y → apart r ≡ of_reply y
+    -- it is refused by one number only
+    of_unknown : {n : Refusal} → asked ≡ Err n → n ≡ UnknownName
+    unfolding asked question
+    of_unknown {n} q = by _ _ q
+      where
+        by : (t b : Bool) → pick t (Err UnknownName) (Ok b) ≡ Err n → n ≡ UnknownName
+        by true b q = cc
+        by false b q = absurd (let z : ◌≡◌ {A = ℕ} 0 1 = cc in omega arith)
+
+    question_good : (read_policy s).how ≡ Accepted → {y : Result Bool Refusal} → asked ≡ y → apart r ≡ of_reply y
     unfolding question_fields asked
     question_good q {y} e = answered _ (reply_fits y) w.answer (rw (q, e))
 
     pub question_ends : QuestionEnds s user permission r
-    unfolding asked reply_outcome reply_value
+    unfolding asked reply_value
     question_ends = by (read_policy s).how refl
       where
-        of : (read_policy s).how ≡ Accepted → (y : Reply) → asked ≡ y → QuestionEnds s user permission r
-        of q reply.Unknown e = unknown q e (question_good q e)
-        of q reply.Yes e = yes q e (question_good q e)
-        of q reply.No e = no q e (question_good q e)
+        of : (read_policy s).how ≡ Accepted → (y : Result Bool Refusal) → asked ≡ y → QuestionEnds s user permission r
+        of q (Err n) e = let f = e ∙ ap (λ m. Err m) (of_unknown e) in unknown q f (question_good q f)
+        of q (Ok true) e = yes q e (question_good q e)
+        of q (Ok false) e = no q e (question_good q e)
 
         by : (h : How) → (read_policy s).how ≡ h → QuestionEnds s user permission r
         by (Refused c p) q = question_bad q

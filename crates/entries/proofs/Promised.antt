@@ -9,7 +9,7 @@ use lib.Seq.{sets}
 use Rattle.sets.specs.Tests.{◌and◌, ◌or◌}
 use Rattle.sets.proofs.Tests.{and_i, or_l, or_r}
 use Rattle.policy.specs.declared.Policy.{Policy}
-use Rattle.policy.specs.declared.Answer.{Answer}
+use Rattle.policy.specs.Outcome.{Answer}
 use Rattle.requests.specs.declared.Request.{Request}
 use Rattle.requests.specs.Requests.{decide}
 use Rattle.requests.specs.Numbers.{among, may_give}
@@ -18,7 +18,7 @@ use Rattle.requests.proofs.Decided.{every_request, outcome_given}
 use Rattle.number.specs.Number.{part}
 use Rattle.number.proofs.Parts.{stands_byte, stands_part}
 use Rattle.number.proofs.Stores.{sets_stands}
-use Rattle.reading.specs.declared.How.TheVariants.{Accepted}
+use Rattle.reading.specs.File.{Accepted}
 use Rattle.reading.specs.File.{read_policy}
 use Rattle.reading.proofs.Theorems.{accepted_good, refused-within}
 use Rattle.layout.specs.Layout.{policy_bytes}

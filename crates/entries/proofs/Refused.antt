@@ -8,11 +8,11 @@ use native.Mathlib.Omega.{arith}
 use borrow.Author.Tests.{le-leb}
 use lib.ListN.{length}
 use Rattle.sets.proofs.Tests.{clash, and_i}
-use Rattle.policy.specs.declared.Answer.{Answer}
+use Rattle.policy.specs.Outcome.{Answer}
 use Rattle.requests.specs.declared.Request.{Request}
 use Rattle.requests.proofs.Decided.{outcome_given}
 use Rattle.requests.proofs.Table.{given_below}
-use Rattle.reading.specs.declared.How.TheVariants.{Accepted, Refused}
+use Rattle.reading.specs.File.{Accepted, Refused}
 use Rattle.reading.specs.File.{read_policy}
 use Rattle.reading.proofs.Theorems.{refused-within}
 use Rattle.parts.specs.Parts.{is_table}

@@ -4,8 +4,8 @@ use Rattle.std.specs.Prelude.{ℕ, ◌≡◌, List, length}
 use Rattle.policy.specs.Question.{question}
 use Rattle.requests.specs.declared.Request.{Request}
 use Rattle.requests.specs.Requests.{decide}
-use Rattle.reading.specs.declared.How.{How}
-use Rattle.reading.specs.declared.How.TheVariants.{Accepted, Refused}
+use Rattle.reading.specs.File.{How}
+use Rattle.reading.specs.File.{Accepted, Refused}
 use Rattle.reading.specs.File.{read_policy}
 use Rattle.parts.specs.Parts.{part_at}
 use Rattle.listing.specs.Listing.{listed, filled}

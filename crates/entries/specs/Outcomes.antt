@@ -2,7 +2,7 @@
 use Rattle.std.specs.Prelude.{ℕ, ◌≤◌, ◌≡◌, Bool, false, List, [], ◌∷◌, eqb, leb}
 use Rattle.sets.specs.Tests.{◌and◌, ◌or◌}
 use Rattle.requests.specs.Numbers.{among, may_give}
-use Rattle.reading.specs.declared.How.TheVariants.{Refused}
+use Rattle.reading.specs.File.{Refused}
 use Rattle.reading.specs.File.{read_policy}
 use Rattle.answers.specs.Answers.{Fields, apart, refusal}
 

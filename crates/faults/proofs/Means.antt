@@ -28,8 +28,8 @@ pub record Faultless (o : Orders) (m : Ranges) : Type 0 where
   pub apart : two_overlap o.roles m ≡ false
 
 -- the number, by what holds
-abbrev number_of : Bool → Bool → Bool → Bool → ℕ
-number_of a b c d = pick a 23 (pick b 24 (pick c 25 (pick d 26 0)))
+abbrev number_by : Bool → Bool → Bool → Bool → ℕ
+number_by a b c d = pick a 23 (pick b 24 (pick c 25 (pick d 26 0)))
 
 module _ (o : Orders) (m : Ranges) where
   pub no_fault : fault o m ≡ 0 → Faultless o m
@@ -37,7 +37,7 @@ module _ (o : Orders) (m : Ranges) where
   no_fault q = by (not_strict o.roles or not_strict o.admins) refl (some_low o.roles m) refl (some_open o.roles m) refl (two_overlap o.roles m) refl q
     where
       by : (a : Bool) → (not_strict o.roles or not_strict o.admins) ≡ a → (b : Bool) → some_low o.roles m ≡ b → (c : Bool) → some_open o.roles m ≡ c
-          → (d : Bool) → two_overlap o.roles m ≡ d → number_of a b c d ≡ 0 → Faultless o m
+          → (d : Bool) → two_overlap o.roles m ≡ d → number_by a b c d ≡ 0 → Faultless o m
       by true ea b eb c ec d ed q = absurd (omega arith)
       by false ea true eb c ec d ed q = absurd (omega arith)
       by false ea false eb true ec d ed q = absurd (omega arith)
@@ -49,8 +49,8 @@ module _ (o : Orders) (m : Ranges) where
   unfolding fault first
   fault_number = by (not_strict o.roles or not_strict o.admins) (some_low o.roles m) (some_open o.roles m) (two_overlap o.roles m)
     where
-      by : (a b c d : Bool) → (number_of a b c d ≡ 0 → ⊥)
-          → (23 ≤ number_of a b c d) × (number_of a b c d ≤ 26)
+      by : (a b c d : Bool) → (number_by a b c d ≡ 0 → ⊥)
+          → (23 ≤ number_by a b c d) × (number_by a b c d ≤ 26)
       by true b c d n = (omega arith, omega arith)
       by false true c d n = (omega arith, omega arith)
       by false false true d n = (omega arith, omega arith)
@@ -65,7 +65,8 @@ strict_means o long small n =
     (omega (arith, ltb-false (first_fault o.juniors) 64 (strict_found o long ∙ n), least_le (length o.juniors) (faulty (senior o.juniors))))
 
 -- and rows in which nothing is found are sound
-pub sound_rows : (o : Order) (m : Ranges) → o.used < 2 ^ 64 → InUse o.used (senior o.juniors) → some_low o m ≡ false → some_open o m ≡ false → two_overlap o m ≡ false
+pub sound_rows : (o : Order) (m : Ranges) → o.used < 2 ^ 64 → InUse o.used (senior o.juniors)
+    → some_low o m ≡ false → some_open o m ≡ false → two_overlap o m ≡ false
     → SoundRows o.used (senior o.juniors) m.count m.rows
 unfolding unsound some_low some_open two_overlap
 sound_rows o m width in_use l c p =

@@ -1,6 +1,6 @@
 -- What is looked at once a file is read to its end. Document 01, "The policy file":
 -- "23 either order not strict; 24 a can-modify low not junior to high; 25 a range not encapsulated; 26 two overlap in part".
-use Rattle.std.specs.Prelude.{Bool, ℕ}
+use Rattle.std.specs.Prelude.{Bool, ℕ, Option, None, Some}
 use Rattle.sets.specs.Tests.{◌or◌}
 use Rattle.sets.specs.Sets.{any}
 use Rattle.order.specs.declared.Order.{Order}
@@ -9,6 +9,20 @@ use Rattle.ranges.specs.Rows.{row_at, low_not_junior, not_encapsulated, overlap}
 use Rattle.policy.specs.declared.Orders.{Orders}
 use Rattle.policy.specs.declared.Ranges.{Ranges}
 use Rattle.policy.specs.Outcome.{accept, refuse, first}
+use Rattle.faults.specs.declared.Fault.{Fault}
+use Rattle.faults.specs.declared.Fault.TheVariants.{NotStrict, LowNotJunior, NotEncapsulated, Overlap}
+
+-- the number of each fault
+abbrev pub number : Fault → ℕ
+number NotStrict = 23
+number LowNotJunior = 24
+number NotEncapsulated = 25
+number Overlap = 26
+
+-- the number of what is found, and 0 where nothing is
+abbrev pub number_of : Option Fault → ℕ
+number_of None = 0
+number_of (Some f) = number f
 
 -- "nothing is senior to itself, and senior-of-senior is senior" does not hold of some number
 unfoldable pub not_strict : Order → Bool

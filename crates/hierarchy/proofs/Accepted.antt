@@ -1,8 +1,9 @@
 -- What holds where a request of kinds 5 to 8 is accepted.
 -- Assumes nothing.
-use mathlib.Core.Path.{◌≡◌, refl, sym, ap, subst}
+use mathlib.Core.Path.{◌≡◌, refl, sym, subst}
 use mathlib.Core.Bool.{Bool, true, false}
 use Prim.Native.Nat.{ℕ, ◌<◌, ◌≤◌, ◌^◌}
+use lib.Dec.{eqb}
 use borrow.Author.Tests.{eqb-false}
 use Rattle.sets.specs.Tests.{◌and◌, neg}
 use Rattle.sets.specs.Sets.{lowest_free}
@@ -37,6 +38,7 @@ create_ok s a b e =
     }
 
 pub record DeleteOk (s : Site) (names members : Bool) (a b : ℕ) : Type 0 where
+  pub zero : eqb b 0 ≡ true
   pub known : unknown_role s a ≡ false
   pub may : may_modify s 6 a b ≡ true
   pub unnamed : names ≡ false
@@ -47,6 +49,7 @@ unfolding delete_rules condition nonzero ◌and◌ neg
 delete_ok s names members a b e =
     let at : (n : ℕ) → condition n (delete_rules s names members a b) ≡ false = λ n. passed n (delete_rules s names members a b) refl e in
     record {
+      zero = neg_false _ (at 1);
       known = at 2;
       may = neg_false _ (at 3);
       unnamed = at 7;
@@ -108,7 +111,3 @@ module _ (s : Site) (w : s.roles.used < 2 ^ 64) where
 pub site-size : {s : Site} (p : Policy) (o : ℕ) → s ≡ site p o → p.modify.count ≤ 64 → s.modify.count ≤ 64
 unfolding site
 site-size p o e l = subst (λ (s : Site). s.modify.count ≤ 64) (sym e) l
-
-pub site_roles : {s : Site} (p : Policy) (o : ℕ) → s ≡ site p o → s.roles ≡ p.orders.roles
-unfolding site
-site_roles p o e = ap (λ (s : Site). s.roles) e

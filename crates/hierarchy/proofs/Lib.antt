@@ -1,3 +1,4 @@
+pub mod Joined
 pub mod Laws
 pub mod Accepted
 pub mod Answers

@@ -1,5 +1,5 @@
 -- Kinds 5 to 8. Document 01, "The eight requests" and "Outcome numbers".
-use Rattle.std.specs.Prelude.{Bool, ℕ, ◌≤◌, ◌<◌, eqb, ltb, get_or}
+use Rattle.std.specs.Prelude.{Bool, ℕ, eqb, ltb, get_or}
 use Rattle.sets.specs.Tests.{◌and◌, ◌or◌, neg, pick}
 use Rattle.sets.specs.Sets.{has, any, size, lowest_free}
 use Rattle.order.specs.declared.Order.{Order}
@@ -13,9 +13,8 @@ use Rattle.policy.specs.declared.Row.{Row}
 use Rattle.policy.specs.declared.Table.{Table}
 use Rattle.policy.specs.declared.Tables.{Tables}
 use Rattle.policy.specs.declared.Ranges.{Ranges}
-use Rattle.policy.specs.declared.Answer.{Answer}
 use Rattle.policy.specs.Build.{empty_row, with_roles}
-use Rattle.policy.specs.Outcome.{Refusals, accept, refuse, first, answer}
+use Rattle.policy.specs.Outcome.{Answer, Refusals, accept, refuse, first, answer}
 use Rattle.hierarchy.specs.declared.Site.{Site}
 
 -- What kinds 5 to 8 look at, for an officer:
@@ -96,17 +95,6 @@ tied t m users permissions a = named t m a or (some_in users a or some_in permis
 
 abbrev pub tied_in : Policy → ℕ → Bool
 tied_in p = tied p.tables p.modify p.people.users p.permissions
-
--- what the test of it asks of its caller: no more rows and members than there is room for
-pub record Counted (t : Tables) (m : Ranges) (users permissions : Members) : Type 0 where
-  pub tables : (t.assign.count ≤ 64) × (t.revoke.count ≤ 64) × (t.assignp.count ≤ 64) × (t.revokep.count ≤ 64) × (m.count ≤ 64)
-  pub members : (users.count ≤ 256) × (permissions.count ≤ 256)
-
--- what the tests of number 9 ask of their caller: at most 64 rows, and two roles below 64
-pub record PairFits (s : Site) (a b : ℕ) : Type 0 where
-  pub rows : s.modify.count ≤ 64
-  pub first : a < 64
-  pub second : b < 64
 
 -- kind 5; number 5: "kind 5 with a not senior to b"
 unfoldable pub create_rules : Site → ℕ → ℕ → Refusals

@@ -5,7 +5,7 @@ use mathlib.Core.Path.{◌≡◌}
 use mathlib.Core.List.{List, ◌++◌}
 use native.Mathlib.Nat.{mul-le-mul_right}
 use native.Mathlib.Omega.{arith}
-use lib.ListN.{length, length-append}
+use lib.ListN.{length, length-append, take, length-take}
 use Rattle.number.specs.Run.{each}
 use Rattle.number.proofs.Puts.{each_most}
 
@@ -41,3 +41,11 @@ pub counted_most : (a : List ℕ) (f : ℕ → List ℕ) (N M h k : ℕ) → len
     → length (a ++ each f N 0) ≤ h + M * k
 counted_most a f N M h k l m most =
     omega (arith, length-append a (each f N 0), each_most f N k most N 0 (omega arith), mul-le-mul_right k m)
+
+-- ---- a loop over the front of an array: the things in use
+module _ {A : Type 0} {n i : ℕ} (xs : List A) where
+  pub front_in : i < length (take n xs) → i < n
+  front_in h = omega (arith, length-take n xs)
+
+  pub front-over : n ≤ length xs → length (take n xs) ≤ i → n ≤ i
+  front-over l h = omega (arith, length-take n xs)

@@ -88,15 +88,16 @@ module _ (needed barred : ℕ) where
   unfolding condition_bytes
   condition_out e = rw e
 
-  pub condition_of : length (condition_bytes true needed barred) ≡ length (num_bytes needed) + length (num_bytes barred)
-  condition_of = ap length (condition_in refl) ∙ length-append (num_bytes needed) (num_bytes barred)
+  pub condition_of : (assign : Bool) → assign ≡ true
+      → length (condition_bytes assign needed barred) ≡ length (num_bytes needed) + length (num_bytes barred)
+  condition_of assign e = ap length (condition_in e) ∙ length-append (num_bytes needed) (num_bytes barred)
 
-  pub condition_none : length (condition_bytes false needed barred) ≡ 0
-  condition_none = ap length (condition_out refl)
+  pub condition_none : (assign : Bool) → assign ≡ false → length (condition_bytes assign needed barred) ≡ 0
+  condition_none assign e = ap length (condition_out e)
 
   pub condition_most : (assign : Bool) → length (condition_bytes assign needed barred) ≤ 20
-  condition_most true = omega (arith, condition_of, bytes_most needed, bytes_most barred)
-  condition_most false = omega (arith, condition_none)
+  condition_most true = omega (arith, condition_of true refl, bytes_most needed, bytes_most barred)
+  condition_most false = omega (arith, condition_none false refl)
 
 module _ (assign : Bool) (row : Row) where
   pub row_of : length (row_bytes assign row)
@@ -164,3 +165,22 @@ module _ (p : Policy) where
         permissions_most p.permissions s.permissions,
         tables_most p.tables p.modify (table_sizes s),
       )
+
+-- how long each part is, and at most, for sums of them
+pub ruleset lengths = (
+  user_of,
+  ends_of,
+  condition_of,
+  condition_none,
+  row_of,
+  tables_of,
+  policy_of,
+  bytes_most,
+  order_most,
+  users_most,
+  permissions_most,
+  ends_most,
+  rows_most,
+  ranges_most,
+  tables_most,
+)

@@ -1,7 +1,7 @@
 -- Document 01, "The policy file": "10,375 bytes are always enough for first number 1."
 -- Assumes nothing.
 use Prim.Native.Nat.{ℕ, zero, suc, ◌+◌, ◌-◌, ◌*◌, ◌^◌, ◌<◌, ◌≤◌}
-use mathlib.Core.Path.{◌≡◌, sym, ◌∙◌, ap}
+use mathlib.Core.Path.{◌≡◌, sym, ◌∙◌, ap, refl}
 use mathlib.Core.Bool.{Bool, true, false}
 use mathlib.Core.List.{List, [], ◌++◌}
 use mathlib.Core.Logic.{⊎_elim}
@@ -142,10 +142,10 @@ module _ (used admins : ℕ) (u : used < 2 ^ 64) (v : admins < 2 ^ 16) where
         (λ i h. good_row assign k (get_or t.rows i empty_row) (g.rows i h) (l (get_or t.rows i empty_row)))
 
     assign_most : length (rows_bytes true t) ≤ 1537
-    assign_most = good_rows true 20 (λ row. omega (arith, condition_of row.needed row.barred, bytes_most row.needed, bytes_most row.barred))
+    assign_most = good_rows true 20 (λ row. omega (arith, condition_of row.needed row.barred true refl, bytes_most row.needed, bytes_most row.barred))
 
     revoke_most : length (rows_bytes false t) ≤ 257
-    revoke_most = good_rows false 0 (λ row. omega (arith, condition_none row.needed row.barred))
+    revoke_most = good_rows false 0 (λ row. omega (arith, condition_none row.needed row.barred false refl))
 
   good_ranges_most : (m : Ranges) → m.count ≤ 64 → GoodRanges used admins m → length (ranges_bytes m) ≤ 193
   unfolding ranges_bytes modify_bytes

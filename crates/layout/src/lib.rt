@@ -23,14 +23,13 @@ fn order_length(o: Order) -> usize
     ensures { result ≡ length (order_bytes o) }
 {
     let mut n = number_len(o.used);
-    let mut a = 0;
-    while a < 64 {
-        n = n + juniors_length(o.used, a, o.juniors[a]);
-        a = a + 1;
+    for a in 0..64 {
+        n += juniors_length(o.used, a, o.juniors[a]);
     }
     n
 }
 
+#[tactic(auto, using(crate::proofs::Lengths::lengths))]
 fn user_length(roles: u64, office: u64) -> usize
     ensures { result ≡ length (user_bytes roles office) }
 {
@@ -41,12 +40,9 @@ fn users_length(p: People) -> usize
     requires { p.users.count ≤ 256 }
     ensures { result ≡ length (users_bytes p) }
 {
-    let users = p.users;
-    let mut n = number_len(users.count as u64);
-    let mut i = 0;
-    while i < users.count {
-        n = n + user_length(users.roles[i], p.offices[i]);
-        i = i + 1;
+    let mut n = number_len(p.users.count as u64);
+    for i in 0..p.users.count {
+        n += user_length(p.users.roles[i], p.offices[i]);
     }
     n
 }
@@ -56,14 +52,13 @@ fn permissions_length(m: Members) -> usize
     ensures { result ≡ length (permissions_bytes m) }
 {
     let mut n = number_len(m.count as u64);
-    let mut i = 0;
-    while i < m.count {
-        n = n + number_len(m.roles[i]);
-        i = i + 1;
+    for roles in &m.roles[..m.count] {
+        n += number_len(*roles);
     }
     n
 }
 
+#[tactic(auto, using(crate::proofs::Lengths::lengths))]
 fn ends_length(admin: AdminId, low: RoleId, high: RoleId) -> usize
     ensures { result ≡ length (ends_bytes admin low high) }
 {
@@ -71,6 +66,7 @@ fn ends_length(admin: AdminId, low: RoleId, high: RoleId) -> usize
 }
 
 // A row of a can-assign table, which has two sets, or of a can-revoke table.
+#[tactic(auto, using(crate::proofs::Lengths::lengths))]
 fn row_length(assign: bool, row: Row) -> usize
     ensures { result ≡ length (row_bytes assign row) }
 {
@@ -87,10 +83,8 @@ fn rows_length(assign: bool, t: Table) -> usize
     ensures { result ≡ length (rows_bytes assign t) }
 {
     let mut n = number_len(t.count as u64);
-    let mut i = 0;
-    while i < t.count {
-        n = n + row_length(assign, t.rows[i]);
-        i = i + 1;
+    for row in &t.rows[..t.count] {
+        n += row_length(assign, *row);
     }
     n
 }
@@ -100,15 +94,13 @@ fn ranges_length(m: Ranges) -> usize
     ensures { result ≡ length (ranges_bytes m) }
 {
     let mut n = number_len(m.count as u64);
-    let mut i = 0;
-    while i < m.count {
-        let row = m.rows[i];
-        n = n + ends_length(row.admin, row.low, row.high);
-        i = i + 1;
+    for row in &m.rows[..m.count] {
+        n += ends_length(row.admin, row.low, row.high);
     }
     n
 }
 
+#[tactic(auto, using(crate::proofs::Lengths::lengths))]
 fn tables_length(t: Tables, m: Ranges) -> usize
     requires { TableSizes t m }
     ensures { result ≡ length (tables_bytes t m) }
@@ -121,14 +113,14 @@ fn tables_length(t: Tables, m: Ranges) -> usize
 }
 
 // How many bytes the file has: it fits a buffer exactly if the buffer is no shorter.
+#[tactic(auto, using(crate::proofs::Lengths::lengths))]
 pub fn file_length(p: Policy) -> usize
     requires { Sizes p }
     ensures { result ≡ length (policy_bytes p) }
 {
-    let orders = p.orders;
     let first = number_len(1);
-    let roles = order_length(orders.roles);
-    let admins = order_length(orders.admins);
+    let roles = order_length(p.orders.roles);
+    let admins = order_length(p.orders.admins);
     let users = users_length(p.people);
     let permissions = permissions_length(p.permissions);
     first + roles + admins + users + permissions + tables_length(p.tables, p.modify)

@@ -1,46 +1,42 @@
--- A field by how many digits it has, and bytes stored one after the other.
+-- A number's digits in a line are those of the library, and so is a line what four numbers, spaces and an end give.
 -- Assumes nothing.
-use Prim.Native.Nat.{ℕ, ◌+◌, ◌/◌, ◌%◌, ◌<◌, ◌≤◌}
-use mathlib.Core.Path.{◌≡◌, refl, ap}
+use Prim.Native.Nat.{ℕ, ◌<◌, ◌≤◌, ◌/◌}
+use mathlib.Core.Path.{◌≡◌, sym, ◌∙◌}
 use mathlib.Core.Logic.{⊎_elim}
-use mathlib.Core.List.{List, [], ◌∷◌}
+use mathlib.Core.List.{[], ◌∷◌, ◌++◌, append_assoc}
 use native.Mathlib.Omega.{arith}
-use native.Mathlib.Numerals.{add-one, add-two, add-three}
 use borrow.Author.Tests.{lt-ltb, le-ltb}
-use lib.ListN.{length, set}
+use Rattle.std.specs.Fmt.{decimal as library_decimal}
+use Rattle.std.proofs.lemmas.Fmt.{decimal_digit, decimal_step}
 use Rattle.sets.proofs.Digits.{lt_or_le}
-use Rattle.writers.specs.Writers.{Wrote}
-use Rattle.list.specs.Lines.{decimal, field}
+use Rattle.list.specs.Lines.{decimal, field, line}
 
-module _ (x end : ℕ) where
-  pub field_one : x < 10 → field x end ≡ (48 + x) ∷ end ∷ []
-  unfolding field decimal
-  field_one h = rw (lt-ltb x 10 h)
+one : (x : ℕ) → x < 10 → decimal x ≡ library_decimal x
+unfolding decimal
+one x h = rw (lt-ltb x 10 h) (sym (decimal_digit x h))
 
-  pub field_two : 10 ≤ x → x < 100 → field x end ≡ (48 + x / 10) ∷ (48 + x % 10) ∷ end ∷ []
-  unfolding field decimal
-  field_two h k = rw (le-ltb x 10 h, lt-ltb x 100 k)
+two : (x : ℕ) → 10 ≤ x → x < 100 → decimal x ≡ library_decimal x
+unfolding decimal
+two x h k =
+    let d : x / 10 < 10 = omega arith in
+    rw (le-ltb x 10 h, lt-ltb x 100 k) (sym (decimal_step x h (omega arith) ∙ rw (decimal_digit (x / 10) d)))
 
-  pub field_three : 100 ≤ x → field x end ≡ (48 + x / 100) ∷ (48 + x / 10 % 10) ∷ (48 + x % 10) ∷ end ∷ []
-  unfolding field decimal
-  field_three h = let l : 10 ≤ x = omega arith in rw (le-ltb x 10 l, le-ltb x 100 h)
+three : (x : ℕ) → 100 ≤ x → x < 256 → decimal x ≡ library_decimal x
+unfolding decimal
+three x h k =
+    let l : 10 ≤ x = omega arith in
+    let m : 10 ≤ x / 10 = omega arith in
+    let d : x / 10 / 10 < 10 = omega arith in
+    let e : x / 10 / 10 ≡ x / 100 = omega arith in
+    rw (le-ltb x 10 l, le-ltb x 100 h)
+    (sym (decimal_step x l (omega arith) ∙ rw (decimal_step (x / 10) m (omega arith), decimal_digit (x / 10 / 10) d, e)))
 
-  pub field_most : length (field x end) ≤ 4
-  field_most =
-      ⊎_elim (λ h. omega (arith, ap length (field_one h)))
-      (λ h. ⊎_elim (λ k. omega (arith, ap length (field_two h k))) (λ k. omega (arith, ap length (field_three k))) (lt_or_le x 100))
-      (lt_or_le x 10)
+pub decimal_is : (x : ℕ) → x < 256 → decimal x ≡ library_decimal x
+decimal_is x h =
+    ⊎_elim (λ k. one x k) (λ k. ⊎_elim (λ m. two x k m) (λ m. three x m h) (lt_or_le x 100)) (lt_or_le x 10)
 
-pub past_four : {a : List ℕ} {at past : ℕ} {o m : List ℕ} → length a ≤ 4 → Wrote a at o past m → past ≤ at + 4
-past_four h w = omega (arith, w.place)
-
-module _ (o : List ℕ) (at a b : ℕ) where
-  pub wrote_two : Wrote (a ∷ b ∷ []) at o (at + 2) (set (set o at a) (at + 1) b)
-  wrote_two = record { place = refl; bytes = rw add-one }
-
-  pub wrote_three : (c : ℕ) → Wrote (a ∷ b ∷ c ∷ []) at o (at + 3) (set (set (set o at a) (at + 1) b) (at + 2) c)
-  wrote_three c = record { place = refl; bytes = rw (add-one, add-two) }
-
-  pub wrote_four : (c d : ℕ)
-      → Wrote (a ∷ b ∷ c ∷ d ∷ []) at o (at + 4) (set (set (set (set o at a) (at + 1) b) (at + 2) c) (at + 3) d)
-  wrote_four c d = record { place = refl; bytes = rw (add-one, add-two, add-three) }
+pub line_is : (user kind a b : ℕ) → user < 256 → kind < 256 → a < 256 → b < 256
+    → line user kind a b
+    ≡ library_decimal user ++ (32 ∷ (library_decimal kind ++ (32 ∷ (library_decimal a ++ (32 ∷ (library_decimal b ++ (10 ∷ [])))))))
+unfolding line field
+line_is user kind a b hu hk ha hb = rw (decimal_is user hu, decimal_is kind hk, decimal_is a ha, decimal_is b hb) (simp append_assoc)

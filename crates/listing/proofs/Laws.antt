@@ -1,30 +1,32 @@
 -- The listing, as the code makes it: what is accepted by kind, what is gathered, what is counted and what is written.
 -- Assumes nothing.
 use mathlib.Core.Path.{◌≡◌, refl, sym, ap, ap₂, ◌∙◌}
+use mathlib.Core.Logic.{◌⊎◌, inl, inr}
 use mathlib.Core.Bool.{Bool, true, false}
 use mathlib.Core.List.{List, [], ◌++◌}
 use Prim.Native.Nat.{ℕ, zero, suc, ◌+◌, ◌*◌, ◌/◌, ◌%◌, ◌<◌, ◌≤◌}
 use native.Mathlib.Nat.{add-zero, zero-add}
 use native.Mathlib.Omega.{arith}
-use lib.Dec.{eqb, leb, ltb, lit<}
+use lib.Dec.{eqb, leb, ltb}
 use lib.ListN.{length, get_or, length-append}
-use borrow.Author.Tests.{eq-eqb, ne_eqb, eqb-true, eqb-false, le-leb, lt-leb, lt-ltb, le-ltb, ltb-false}
+use borrow.Author.Tests.{eq-eqb, eqb-true, eqb-false, le-leb, lt-leb, lt-ltb, le-ltb, ltb-false}
 use Rattle.sets.specs.Tests.{◌and◌, ◌or◌, neg, pick}
 use Rattle.sets.specs.Sets.{has, count, set_of, size, Exactly}
-use Rattle.sets.proofs.Tests.{by_test, clash, and_i, and_given, and_fails_l, and_l, or_fails_l, or_fails_r, neg_i}
-use Rattle.sets.proofs.Digits.{has_bit, has_empty}
+use Rattle.sets.proofs.Tests.{by_test, clash, and_i, and_l, or_fails_l, or_fails_r, neg_i}
+use Rattle.sets.proofs.Digits.{has_bit}
 use Rattle.sets.proofs.Quantifiers.{count_same, count_first, count_add}
-use Rattle.sets.proofs.Builders.{set_of_is, set_of_same, has-set_of}
+use Rattle.sets.proofs.Builders.{set_of_same, has-set_of}
 use Rattle.policy.specs.declared.Policy.{Policy}
 use Rattle.policy.specs.Outcome.{first}
-use Rattle.policy.proofs.Outcomes.{first_here}
 use Rattle.hierarchy.specs.declared.Site.{Site}
-use Rattle.hierarchy.specs.declared.Ground.{Ground}
-use Rattle.hierarchy.specs.Ground.{Grounded}
+use Rattle.order.specs.Rows.{Above}
 use Rattle.order.specs.Order.{senior, comparable, edge}
+use Rattle.hierarchy.specs.declared.HierarchyKind.{HierarchyKind}
+use Rattle.hierarchy.specs.declared.HierarchyKind.TheVariants.{CreateRole, DeleteRole, InsertEdge, DeleteEdge}
+use Rattle.hierarchy.specs.Kinds.{kind_number}
 use Rattle.hierarchy.specs.Rules.{site, over, named, some_in, tied, tied_in, unknown_role, may_modify, delete_rules}
-use Rattle.hierarchy.proofs.Laws.{known_first, known_second}
-use Rattle.hierarchy.proofs.Accepted.{create_ok, insert_ok, cut_ok}
+use Rattle.hierarchy.proofs.Laws.{known_role, known_first, known_second}
+use Rattle.hierarchy.proofs.Accepted.{create_ok, delete_ok, insert_ok, cut_ok}
 use Rattle.requests.specs.Requests.{ask, rules_of}
 use Rattle.requests.proofs.Decided.{every_request}
 use lib.Seq.{sets}
@@ -32,128 +34,12 @@ use Rattle.number.specs.Run.{each}
 use Rattle.number.proofs.Puts.{Putting, put_room, put_step}
 use Rattle.listing.specs.Listing.{accepts, place_count, listed_at, entry_count, entry, entries_of, entries_for}
 use Rattle.listing.specs.Listing.{accepted_set, AcceptedRows, in_rows, listed, filled, ListingOf}
-use Rattle.listing.specs.declared.Listed.TheVariants.{Unknown, Short, Entries}
+use Rattle.std.specs.Prelude.{Result, Ok, Err}
+use Rattle.policy.specs.declared.Refusal.{Refusal}
+use Rattle.policy.specs.declared.Refusal.TheVariants.{UnknownName, BufferTooShort}
 use Rattle.listing.specs.Sites.{site_outcome, site_set, ToDo}
 
 -- ---- acceptance by kind
-module _ (p : Policy) (o a b : ℕ) where
-  by_rules : (k : ℕ) → accepts p o k a b ≡ eqb (first (rules_of p (ask o k a b))) 0
-  unfolding accepts
-  by_rules k = ap (λ (n : ℕ). eqb n 0) (every_request p (ask o k a b)).outcome
-
-  pub accepts-create : accepts p o 5 a b ≡ eqb (site_outcome (site p o) 5 a b) 0
-  unfolding rules_of site_outcome
-  accepts-create = by_rules 5
-
-  pub accepts_delete : accepts p o 6 a b ≡ eqb (first (delete_rules (site p o) (named p.tables p.modify a)
-      (some_in p.people.users a or some_in p.permissions a) a b)) 0
-  unfolding rules_of
-  accepts_delete = by_rules 6
-
-  pub accepts-insert : accepts p o 7 a b ≡ eqb (site_outcome (site p o) 7 a b) 0
-  unfolding rules_of site_outcome
-  accepts-insert = by_rules 7
-
-  pub accepts-cut : accepts p o 8 a b ≡ eqb (site_outcome (site p o) 8 a b) 0
-  unfolding rules_of site_outcome
-  accepts-cut = by_rules 8
-
-tied_is : (p : Policy) (a : ℕ) → tied_in p a ≡ (named p.tables p.modify a or (some_in p.people.users a or some_in p.permissions a))
-unfolding tied
-tied_is p a = refl
-
--- kinds 5, 7 and 8 in one: k is below 9, at least 5 and not 6
-pub accepts-site : (p : Policy) (o a b k : ℕ) → 5 ≤ k → k < 9 → (k ≡ 6 → ⊥) → accepts p o k a b ≡ eqb (site_outcome (site p o) k a b) 0
-accepts-site p o a b k l m n =
-    by_test (eqb k 5) (λ e. at 5 e (accepts-create p o a b))
-    (λ e5. by_test (eqb k 7) (λ e. at 7 e (accepts-insert p o a b))
-    (λ e7. at 8 (eq-eqb k 8 (eight (eqb-false k 5 e5) (eqb-false k 7 e7))) (accepts-cut p o a b)))
-  where
-    at : (c : ℕ) → eqb k c ≡ true → accepts p o c a b ≡ eqb (site_outcome (site p o) c a b) 0
-        → accepts p o k a b ≡ eqb (site_outcome (site p o) k a b) 0
-    at c e h = rw (eqb-true k c e) h
-
-    eight : (k ≡ 5 → ⊥) → (k ≡ 7 → ⊥) → k ≡ 8
-    eight n5 n7 = omega arith
-
--- kind 6 with b not 0 gives 1
-module _ (s : Site) (names members : Bool) (a : ℕ) where
-  only_zero : (b : ℕ) → eqb (first (delete_rules s names members a b)) 0 ≡ (eqb b 0 and eqb (first (delete_rules s names members a 0)) 0)
-  unfolding delete_rules
-  only_zero b =
-      by_test (eqb b 0)
-      (λ t. rw (eqb-true b 0 t) (sym (and_given _ _ refl)))
-      (λ t. ap (λ (n : ℕ). eqb n 0) (sym (first_here _ 1 _ (neg_i _ t))) ∙ sym (and_fails_l _ _ t))
-
-  -- m is the outcome with b 0 that the code finds
-  module _ {m : ℕ} (e : m ≡ first (delete_rules s names members a 0)) where
-    pub delete_one : m ≡ 0 → 1 ≡ set_of 64 (λ b. eqb (first (delete_rules s names members a b)) 0)
-    delete_one z =
-        set_of_is 64 1 _ (lit< tt) (λ b l. has_bit 0 b ∙ sym (only_zero b ∙ both b (eq-eqb _ 0 (sym e ∙ z))))
-      where
-        both : (b : ℕ) {t : Bool} → t ≡ true → (eqb b 0 and t) ≡ eqb b 0
-        both b q = rw q (Rattle.sets.proofs.Tests.and_true _)
-
-    pub delete_none : (m ≡ 0 → ⊥) → 0 ≡ set_of 64 (λ b. eqb (first (delete_rules s names members a b)) 0)
-    delete_none z =
-        set_of_is 64 0 _ (lit< tt) (λ b l. has_empty b ∙ sym (only_zero b ∙ Rattle.sets.proofs.Tests.and_fails_r _ _ (ne_eqb _ 0 (λ q. z (e ∙ q)))))
-
--- ---- the candidates: where a request would be accepted, there is something to do
-
-module _ (s : Site) (a b : ℕ) where
-  pub create_member : site_outcome s 5 a b ≡ 0 → (has s.roles.used a ≡ true) × (over s a b ≡ true)
-  unfolding site_outcome
-  create_member e = let ok = create_ok s a b e in (known_first s a b ok.known, ok.senior)
-
-  pub insert_member : site_outcome s 7 a b ≡ 0
-      → (has s.roles.used a ≡ true) × (has s.roles.used b ≡ true) × (comparable (over s) a b ≡ false)
-  unfolding site_outcome
-  insert_member e =
-      let ok = insert_ok s a b e in
-      (known_first s a b ok.known, known_second s a b ok.known, ok.apart)
-
-  pub cut_member : (kind : ℕ) → (kind ≡ 5 → ⊥) → (kind ≡ 7 → ⊥) → site_outcome s kind a b ≡ 0
-      → (has s.roles.used a ≡ true) × (over s a b ≡ true)
-  unfolding site_outcome edge
-  cut_member kind n m e =
-      let ok = cut_ok s a b (rw (ne_eqb kind 5 n, ne_eqb kind 7 m) at e) in
-      (known_first s a b ok.known, and_l _ _ ok.joined)
-
--- a has to be in use, whatever the kind
-pub first_used : (s : Site) (kind a b : ℕ) → site_outcome s kind a b ≡ 0 → has s.roles.used a ≡ true
-first_used s kind a b e =
-    by_test (eqb kind 5) (λ t. (create_member s a b (rw (eqb-true kind 5 t) at e)).0)
-    (λ n. by_test (eqb kind 7) (λ t. (insert_member s a b (rw (eqb-true kind 7 t) at e)).0)
-    (λ m. (cut_member s a b kind (eqb-false kind 5 n) (eqb-false kind 7 m) e).0))
-
--- kinds 5 and 8: b is junior to a
-pub junior_member : (s : Site) (kind a b : ℕ) → (kind ≡ 7 → ⊥) → site_outcome s kind a b ≡ 0 → over s a b ≡ true
-junior_member s kind a b m e =
-    by_test (eqb kind 5) (λ t. (create_member s a b (rw (eqb-true kind 5 t) at e)).1)
-    (λ n. (cut_member s a b kind (eqb-false kind 5 n) m e).1)
-
--- the three sets that are tried
-module _ (s : Site) (kind a : ℕ) where
-  pub none_to_do : has s.roles.used a ≡ false → ToDo s kind a 0
-  none_to_do n = record { each = λ b e. clash (first_used s kind a b e) n }
-
-  pub juniors_to_do : (kind ≡ 7 → ⊥) → {r : ℕ} → r ≡ get_or s.roles.juniors a 0 → ToDo s kind a r
-  unfolding senior
-  juniors_to_do m q = record { each = λ b e. rw q (junior_member s kind a b m e) }
-
-  -- of those in use what is neither junior nor senior to a
-  pub others_to_do : kind ≡ 7 → (g : Ground) → Grounded s g → (x y z : ℕ) → x ≡ get_or s.roles.juniors a 0
-      → Exactly y (λ b. has s.roles.used b and neg (has x b)) → Exactly z (λ b. has y b and neg (has (get_or g.seniors a 0) b)) → ToDo s kind a z
-  unfolding senior comparable
-  others_to_do k g st x y z q ey ez = record {
-    each = λ b e.
-        let t = insert_member s a b (rw k at e) in
-        let apart = or_fails_r _ _ t.2 in
-        ez b ∙ and_i _ _ (ey b ∙ and_i _ _ t.1 (neg_i _ (rw q (or_fails_l _ _ apart))))
-        (neg_i _ (st.above.seniors a b ∙ or_fails_r _ _ apart));
-  }
-
--- ---- the rows that are gathered
 
 -- 7 and 8 together say whether the role is tied
 tied_refusals : (s : Site) (names members : Bool) (a b : ℕ)
@@ -170,21 +56,83 @@ tied_refusals s false true a b = by_ends (neg (eqb b 0)) (unknown_role s a) (neg
     by_ends false false false = refl
 tied_refusals s false false a b = refl
 
+module _ (p : Policy) (o a b : ℕ) where
+  by_rules : (k : ℕ) → accepts p o k a b ≡ eqb (first (rules_of p (ask o k a b))) 0
+  unfolding accepts
+  by_rules k = ap (λ (n : ℕ). eqb n 0) (every_request p (ask o k a b)).outcome
+
+  pub accepts_delete : accepts p o 6 a b ≡ eqb (first (delete_rules (site p o) (named p.tables p.modify a)
+      (some_in p.people.users a or some_in p.permissions a) a b)) 0
+  unfolding rules_of
+  accepts_delete = by_rules 6
+
+  -- tied says of a what 7 and 8 say of it
+  module _ (tied : ℕ) (e : has tied a ≡ tied_in p a) where
+    accepts_tied : accepts p o 6 a b ≡ eqb (first (delete_rules (site p o) (has tied a) false a b)) 0
+    unfolding Rattle.hierarchy.specs.Rules.tied
+    accepts_tied =
+        accepts_delete ∙ sym (tied_refusals (site p o) _ _ a b)
+        ∙ ap (λ (x : Bool). eqb (first (delete_rules (site p o) x false a b)) 0) (sym e)
+
+    accepts_site : (k : ℕ) → 5 ≤ k → k < 9 → accepts p o k a b ≡ eqb (site_outcome (site p o) tied k a b) 0
+    unfolding rules_of site_outcome
+    accepts_site k l m =
+        by_test (eqb k 5) (λ t. at 5 t (by_rules 5))
+        (λ n5. by_test (eqb k 6) (λ t. at 6 t accepts_tied)
+        (λ n6. by_test (eqb k 7) (λ t. at 7 t (by_rules 7))
+        (λ n7. at 8 (eq-eqb k 8 (eight (eqb-false k 5 n5) (eqb-false k 6 n6) (eqb-false k 7 n7))) (by_rules 8))))
+      where
+        at : (c : ℕ) → eqb k c ≡ true → accepts p o c a b ≡ eqb (site_outcome (site p o) tied c a b) 0
+            → accepts p o k a b ≡ eqb (site_outcome (site p o) tied k a b) 0
+        at c t h = rw (eqb-true k c t) h
+
+        eight : (k ≡ 5 → ⊥) → (k ≡ 6 → ⊥) → (k ≡ 7 → ⊥) → k ≡ 8
+        eight n5 n6 n7 = omega arith
+
+-- the rows that are gathered
 pub site_rows : (p : Policy) (o j : ℕ) → j < 256 → site_set (site p o) (set_of 64 (tied_in p)) j ≡ accepted_set p o j
 unfolding site_set accepted_set
 site_rows p o j l =
-    by_test (eqb (5 + j / 64) 6)
-    (λ t. rw t
-    (set_of_same 64 _ _ (λ b h.
-    ap (λ (x : Bool). eqb (first (delete_rules (site p o) x false (j % 64) b)) 0) (tied_at (j % 64) (omega arith))
-    ∙ tied_refusals (site p o) _ _ (j % 64) b ∙ sym (accepts_delete p o (j % 64) b)
-    ∙ ap (λ (c : ℕ). accepts p o c (j % 64) b) (sym (eqb-true (5 + j / 64) 6 t)))))
-    (λ t. rw t
-    (set_of_same 64 _ _ (λ b h. sym (accepts-site p o (j % 64) b (5 + j / 64) (omega arith) (omega arith) (eqb-false (5 + j / 64) 6 t)))))
-  where
-    tied_at : (a : ℕ) → a < 64
-        → has (set_of 64 (tied_in p)) a ≡ (named p.tables p.modify a or (some_in p.people.users a or some_in p.permissions a))
-    tied_at a k = has-set_of 64 (tied_in p) a k ∙ tied_is p a
+    set_of_same 64 _ _
+    (λ b h. sym (accepts_site p o (j % 64) b _ (has-set_of 64 (tied_in p) (j % 64) (omega arith)) (5 + j / 64) (omega arith) (omega arith)))
+
+-- ---- the candidates: where a request would be accepted, there is something to do
+
+-- a has to be in use, whatever the kind
+first_used : (s : Site) (tied : ℕ) (k : HierarchyKind) (a b : ℕ) → site_outcome s tied (kind_number k) a b ≡ 0 → has s.roles.used a ≡ true
+unfolding site_outcome
+first_used s tied CreateRole a b e = known_first s a b (create_ok s a b e).known
+first_used s tied DeleteRole a b e = known_role s a (delete_ok s _ _ a b e).known
+first_used s tied InsertEdge a b e = known_first s a b (insert_ok s a b e).known
+first_used s tied DeleteEdge a b e = known_first s a b (cut_ok s a b e).known
+
+-- the sets that are tried
+module _ (s : Site) (a : ℕ) where
+  pub none_to_do : (k : HierarchyKind) → has s.roles.used a ≡ false → ToDo s (kind_number k) a 0
+  none_to_do k n = record { each = λ tied b e. clash (first_used s tied k a b e) n }
+
+  -- kinds 5 and 8 ask for a senior to b
+  pub juniors_to_do : (k : HierarchyKind) → (k ≡ CreateRole) ⊎ (k ≡ DeleteEdge) → ToDo s (kind_number k) a (get_or s.roles.juniors a 0)
+  unfolding senior site_outcome edge
+  juniors_to_do k (inl e) = rw e (record { each = λ tied b z. (create_ok s a b z).senior })
+  juniors_to_do k (inr e) = rw e (record { each = λ tied b z. and_l _ _ (cut_ok s a b z).joined })
+
+  pub delete_to_do : ToDo s 6 a 1
+  unfolding site_outcome
+  delete_to_do = record { each = λ tied b e. has_bit 0 b ∙ (delete_ok s _ _ a b e).zero }
+
+  -- of those in use what is neither junior nor senior to a
+  pub insert_to_do : {seniors : List ℕ} → Above s.roles.juniors seniors → (y z : ℕ)
+      → Exactly y (λ b. has s.roles.used b and neg (has (get_or s.roles.juniors a 0) b))
+      → Exactly z (λ b. has y b and neg (has (get_or seniors a 0) b)) → ToDo s 7 a z
+  unfolding senior comparable site_outcome
+  insert_to_do above y z ey ez = record {
+    each = λ tied b e.
+        let ok = insert_ok s a b e in
+        let apart = or_fails_r _ _ ok.apart in
+        ez b ∙ and_i _ _ (ey b ∙ and_i _ _ (known_second s a b ok.known) (neg_i _ (or_fails_l _ _ apart)))
+        (neg_i _ (above.seniors a b ∙ or_fails_r _ _ apart));
+  }
 
 -- ---- the count
 -- a place of row j
@@ -282,7 +230,7 @@ module _ (rows o₀ o : List ℕ) (i at : ℕ) (k : Putting (wanted rows) place_
 
 -- ---- the three ways out: n is the count that the code finds in the rows that it gathered
 module _ (p : Policy) (o : ℕ) (out : List ℕ) where
-  pub list_unknown : p.people.users.count ≤ o → ListingOf p o out Unknown out
+  pub list_unknown : p.people.users.count ≤ o → ListingOf p o out (Err UnknownName) out
   unfolding listed filled
   list_unknown l = record { is = rw (le-leb _ _ l); bytes = rw (le-leb _ _ l) }
 
@@ -295,25 +243,26 @@ module _ (p : Policy) (o : ℕ) (out : List ℕ) where
     unfolding entries_for
     bytes_are = entries_same _ _ (λ i h. rows_listed p o rows g i h)
 
-    pub list_short : length out < 3 * n → ListingOf p o out Short out
+    pub list_short : length out < 3 * n → ListingOf p o out (Err BufferTooShort) out
     unfolding listed filled
     list_short h = let k = rw counted at h in record { is = rw (lt-leb _ _ l, lt-ltb _ _ k); bytes = rw (lt-leb _ _ l, lt-ltb _ _ k) }
 
     pub list_room : 3 * n ≤ length out → length (entries_of (in_rows rows)) ≤ length out
     list_room h = rw (entries_length (in_rows rows), ← e) h
 
-    pub list_entries : 3 * n ≤ length out → {after : List ℕ} → after ≡ sets out 0 (entries_of (in_rows rows)) → ListingOf p o out (Entries n) after
+    pub list_entries : 3 * n ≤ length out → {after : List ℕ} → after ≡ sets out 0 (entries_of (in_rows rows)) → ListingOf p o out (Ok n) after
     unfolding listed filled
     list_entries h d =
         let k = rw counted at h in
         record { is = rw (lt-leb _ _ l, le-ltb _ _ k, counted); bytes = rw (lt-leb _ _ l, le-ltb _ _ k) (d ∙ ap (sets out 0) bytes_are) }
 
 -- the entries that a listing gives fit the buffer
-pub entries_fit : (p : Policy) (o room : ℕ) {n : ℕ} → listed p o room ≡ Entries n → 3 * n ≤ room
+pub entries_fit : (p : Policy) (o room : ℕ) {n : ℕ} → listed p o room ≡ Ok n → 3 * n ≤ room
 unfolding listed
 entries_fit p o room {n} = by (leb p.people.users.count o) (ltb room (3 * entry_count p o)) refl
   where
-    by : (s t : Bool) → ltb room (3 * entry_count p o) ≡ t → pick s Unknown (pick t Short (Entries (entry_count p o))) ≡ Entries n → 3 * n ≤ room
-    by true t q e = absurd (let z : ◌≡◌ {A = ℕ} 0 1 = cc in omega arith)
-    by false true q e = absurd (let z : ◌≡◌ {A = ℕ} 0 1 = cc in omega arith)
+    by : (s t : Bool) → ltb room (3 * entry_count p o) ≡ t
+        → ◌≡◌ {A = Result ℕ Refusal} (pick s (Err UnknownName) (pick t (Err BufferTooShort) (Ok (entry_count p o)))) (Ok n) → 3 * n ≤ room
+    by true t q e = absurd (cc)
+    by false true q e = absurd (cc)
     by false false q e = let k : entry_count p o ≡ n = cc in omega (arith, ltb-false room (3 * entry_count p o) q)

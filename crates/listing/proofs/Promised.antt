@@ -8,19 +8,17 @@ use native.Mathlib.Omega.{arith}
 use lib.Dec.{eqb}
 use lib.ListN.{length}
 use borrow.Author.Tests.{eqb-true, eqb-false}
-use Rattle.sets.specs.Tests.{◌and◌, neg, pick}
+use Rattle.sets.specs.Tests.{pick}
 use Rattle.sets.specs.Sets.{has, count}
-use Rattle.sets.proofs.Tests.{by_test, clash, not_so, and_l, and_r, neg_false}
+use Rattle.sets.proofs.Tests.{by_test, clash, not_so, and_l, and_r}
 use Rattle.sets.proofs.Quantifiers.{count_add, count_le, any_fails}
 use Rattle.order.specs.Order.{senior}
-use Rattle.ranges.specs.Rows.{row_at, within}
 use Rattle.policy.specs.declared.Policy.{Policy}
 use Rattle.policy.specs.Good.{Good}
 use Rattle.policy.specs.Outcome.{first}
-use Rattle.policy.proofs.Outcomes.{condition, nonzero, passed}
 use Rattle.hierarchy.specs.declared.Site.{Site}
-use Rattle.hierarchy.specs.Rules.{site, over, delete_rules}
-use Rattle.hierarchy.proofs.Accepted.{create_fits, delete_fits, insert_fits, cut_fits}
+use Rattle.hierarchy.specs.Rules.{site}
+use Rattle.hierarchy.proofs.Accepted.{delete_ok, create_fits, delete_fits, insert_fits, cut_fits}
 use Rattle.safety.specs.Dominance.{may_change, Kept, Outside}
 use Rattle.requests.specs.Requests.{ask, decide, rules_of}
 use Rattle.requests.specs.Reached.{Reached}
@@ -89,8 +87,7 @@ module _ (p : Policy) (o : ℕ) where
 
   -- kind 6 has b 0 alone
   delete_zero : (a b : ℕ) → accepts p o 6 a b ≡ true → eqb b 0 ≡ true
-  unfolding delete_rules condition nonzero ◌and◌ neg
-  delete_zero a b t = neg_false _ (passed 1 _ refl (eqb-true _ 0 (sym (accepts_delete p o a b) ∙ t)))
+  delete_zero a b t = (delete_ok _ _ _ a b (eqb-true _ 0 (sym (accepts_delete p o a b) ∙ t))).zero
 
 -- ---- "37,056 bytes are always enough"
 count_mono : (f g : ℕ → Bool) (w : ℕ) → ((i : ℕ) → i < w → f i ≡ true → g i ≡ true) → count w f ≤ count w g

@@ -1,14 +1,14 @@
 -- Document 01, "The listing": "For an officer: every request of kinds 5 to 8 that would be accepted, ordered by kind, then a, then b, three bytes
 -- each (kind, a, b), from the start of the lent buffer; the count of entries is returned and later bytes stay."
-use Rattle.std.specs.Prelude.{◌≡◌, Bool, List, [], ◌∷◌, ℕ, ◌+◌, ◌*◌, ◌/◌, ◌%◌, ◌<◌, ◌≤◌, eqb, leb, ltb, length, get_or}
+use Rattle.std.specs.Prelude.{◌≡◌, Bool, List, [], ◌∷◌, ℕ, Result, Ok, Err, ◌+◌, ◌*◌, ◌/◌, ◌%◌, ◌<◌, ◌≤◌, eqb, leb, ltb, length, get_or}
 use Rattle.std.proofs.lemmas.List.Edits.{sets}
 use Rattle.sets.specs.Tests.{pick}
 use Rattle.sets.specs.Sets.{has, count, set_of}
 use Rattle.policy.specs.declared.Policy.{Policy}
+use Rattle.policy.specs.declared.Refusal.{Refusal}
+use Rattle.policy.specs.declared.Refusal.TheVariants.{UnknownName, BufferTooShort}
 use Rattle.requests.specs.Requests.{ask, decide}
 use Rattle.number.specs.Run.{each}
-use Rattle.listing.specs.declared.Listed.{Listed}
-use Rattle.listing.specs.declared.Listed.TheVariants.{Unknown, Short, Entries}
 
 -- the request would be accepted from the officer
 unfoldable pub accepts : Policy → ℕ → ℕ → ℕ → ℕ → Bool
@@ -48,9 +48,10 @@ unfoldable pub entries_for : Policy → ℕ → List ℕ
 entries_for p o = entries_of (listed_at p o)
 
 -- "Refused with 2 for an unknown officer, else with 10 exactly if 3 times the count exceeds the buffer"
-unfoldable pub listed : Policy → ℕ → ℕ → Listed
+unfoldable pub listed : Policy → ℕ → ℕ → Result ℕ Refusal
 listed p o room =
-    pick (leb p.people.users.count o) Unknown (pick (ltb room (3 * entry_count p o)) Short (Entries (entry_count p o)))
+    pick (leb p.people.users.count o) (Err UnknownName)
+    (pick (ltb room (3 * entry_count p o)) (Err BufferTooShort) (Ok (entry_count p o)))
 
 -- "the count is 0 and nothing is written then"
 unfoldable pub filled : Policy → ℕ → List ℕ → List ℕ
@@ -58,7 +59,7 @@ filled p o out =
     pick (leb p.people.users.count o) out (pick (ltb (length out) (3 * entry_count p o)) out (sets out 0 (entries_for p o)))
 
 -- what a listing leaves: the answer, and every byte of the buffer
-pub record ListingOf (p : Policy) (o : ℕ) (before : List ℕ) (answer : Listed) (after : List ℕ) : Type 0 where
+pub record ListingOf (p : Policy) (o : ℕ) (before : List ℕ) (answer : Result ℕ Refusal) (after : List ℕ) : Type 0 where
   pub is : answer ≡ listed p o (length before)
   pub bytes : after ≡ filled p o before
 
@@ -86,16 +87,10 @@ pub data Earlier (k a b k' a' b' : ℕ) : Type 0 where
   by_first : k ≡ k' → a < a' → Earlier k a b k' a' b'
   by_second : k ≡ k' → a ≡ a' → b < b' → Earlier k a b k' a' b'
 
--- the number and the count of each answer
-unfoldable pub listed_outcome : Listed → ℕ
-listed_outcome Unknown = 2
-listed_outcome Short = 10
-listed_outcome (Entries n) = 0
-
-unfoldable pub listed_count : Listed → ℕ
-listed_count Unknown = 0
-listed_count Short = 0
-listed_count (Entries n) = n
+-- the count of each answer; its number is `outcome_of`
+unfoldable pub listed_count : Result ℕ Refusal → ℕ
+listed_count (Ok n) = n
+listed_count (Err r) = 0
 
 -- ---- what is gathered before a byte is written: for each kind and a, place j of 4 times 64, the set of the b that would be accepted
 unfoldable pub accepted_set : Policy → ℕ → ℕ → ℕ

@@ -6,16 +6,16 @@ use Rattle.policy.specs.Outcome.{first}
 use Rattle.hierarchy.specs.declared.Site.{Site}
 use Rattle.hierarchy.specs.Rules.{create_rules, delete_rules, insert_rules, cut_rules}
 
-unfoldable pub site_outcome : Site → ℕ → ℕ → ℕ → ℕ
-site_outcome s kind a b =
-    pick (eqb kind 5) (first (create_rules s a b)) (pick (eqb kind 7) (first (insert_rules s a b)) (first (cut_rules s a b)))
+-- tied is the set of the roles that 7 or 8 keeps
+unfoldable pub site_outcome : Site → ℕ → ℕ → ℕ → ℕ → ℕ
+site_outcome s tied kind a b =
+    pick (eqb kind 5) (first (create_rules s a b)) (pick (eqb kind 6) (first (delete_rules s (has tied a) false a b))
+    (pick (eqb kind 7) (first (insert_rules s a b)) (first (cut_rules s a b))))
 
--- each b with which a request of kind 5, 7 or 8 would be accepted is a member
+-- each b with which a request would be accepted is a member
 pub record ToDo (s : Site) (kind a set : ℕ) : Type 0 where
-  pub each : (b : ℕ) → site_outcome s kind a b ≡ 0 → has set b ≡ true
+  pub each : (tied b : ℕ) → site_outcome s tied kind a b ≡ 0 → has set b ≡ true
 
--- The set of the b at place j of 4 times 64; tied is the set of the roles that 7 or 8 keeps.
+-- the set of the b at place j of 4 times 64
 unfoldable pub site_set : Site → ℕ → ℕ → ℕ
-site_set s tied j =
-    pick (eqb (5 + j / 64) 6) (set_of 64 (λ b. eqb (first (delete_rules s (has tied (j % 64)) false (j % 64) b)) 0))
-    (set_of 64 (λ b. eqb (site_outcome s (5 + j / 64) (j % 64) b) 0))
+site_set s tied j = set_of 64 (λ b. eqb (site_outcome s tied (5 + j / 64) (j % 64) b) 0)

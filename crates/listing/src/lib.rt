@@ -1,72 +1,86 @@
 // The listing: every request of kinds 5 to 8 that an officer would have accepted.
 #![tactic(auto)]
 
-ghost use Rattle.std.specs.Prelude.{◌≡◌, false, ◌+◌, ◌*◌, ◌≤◌, ◌<◌, eqb, length};
+ghost use Rattle.std.specs.Prelude.{◌≡◌, ◌+◌, ◌*◌, ◌≤◌, ◌<◌, ◌/◌, length};
 ghost use Rattle.std.proofs.lemmas.List.Edits.{sets};
-ghost use Rattle.sets.specs.Sets.{has, count, set_of};
+ghost use Rattle.sets.specs.Sets.{count};
 ghost use Rattle.policy.specs.Good.{Good};
-ghost use Rattle.policy.specs.Outcome.{first};
-ghost use Rattle.hierarchy.specs.Rules.{delete_rules};
-ghost use Rattle.hierarchy.specs.Ground.{Grounded};
+ghost use Rattle.policy.specs.Outcome.{outcome_of};
+ghost use Rattle.hierarchy.specs.Kinds.{kind_number};
 ghost use Rattle.listing.specs.Listing.{AcceptedRows, in_rows, place_count, entry, entries_of, ListingOf};
 ghost use Rattle.listing.specs.Sites.{site_outcome, site_set, ToDo};
 
-use hierarchy::{
-    Ground, Site, create_outcome, cut_outcome, delete_outcome, ground_of, insert_outcome, site_of,
-    tied_roles,
-};
-use policy::Policy;
+use hierarchy::{Ground, HierarchyKind, tied_roles};
+use policy::{Policy, Refusal};
 use sets::{has, lowest, minus, size, with, without_lowest};
 
-// What a listing gives: the officer is unknown, the buffer too short, or the count of entries.
-#[derive(Clone, Copy)]
-pub enum Listed {
-    Unknown,
-    Short,
-    Entries(usize),
+// The kind of the requests at place j of 4 times 64.
+fn kind_at(j: usize) -> HierarchyKind
+    requires { j < 256 }
+    ensures { kind_number result ≡ 5 + j / 64 }
+{
+    match j / 64 {
+        0 => HierarchyKind::CreateRole,
+        1 => HierarchyKind::DeleteRole,
+        2 => HierarchyKind::InsertEdge,
+        _ => HierarchyKind::DeleteEdge,
+    }
 }
 
-// The outcome of kind 5, 7 or 8: authority and "nothing to do" are tested before the costly check of all ranges.
-fn site_outcome(site: Site, ground: Ground, kind: u64, a: u64, b: u64) -> u64
-    requires { (site.modify.count ≤ 64) × Grounded site ground }
-    ensures { result ≡ site_outcome site kind a b }
+// The outcome: authority and "nothing to do" are tested before the costly check of all ranges. tied is the set of the roles that cannot go.
+#[tactic(auto, unfolding(crate::specs::Sites::site_outcome))]
+fn site_outcome(
+    ground: &Ground,
+    tied: u64,
+    kind: HierarchyKind,
+    a: usize,
+    b: usize,
+) -> Result<(), Refusal>
+    requires { a < 64 }
+    ensures { outcome_of result ≡ site_outcome ground.now.site tied (kind_number kind) a b }
 {
-    if kind == 5 {
-        return create_outcome(site, ground, a, b);
+    let first = a as u64;
+    let second = b as u64;
+    match kind {
+        HierarchyKind::CreateRole => ground.create_outcome(first, second),
+        HierarchyKind::DeleteRole => ground
+            .site
+            .delete_outcome(has(tied, a), false, first, second),
+        HierarchyKind::InsertEdge => ground.insert_outcome(first, second),
+        HierarchyKind::DeleteEdge => ground.cut_outcome(first, second),
     }
-    if kind == 7 {
-        return insert_outcome(site, ground, a, b);
-    }
-    cut_outcome(site, ground, a, b)
 }
 
-// A set that has each b with which a request of kind 5, 7 or 8 has something to do, so that few are tried in vain.
-fn to_do(site: Site, ground: Ground, kind: u64, a: usize) -> u64
-    requires { (a < 64) × Grounded site ground }
-    ensures { ToDo site kind a result }
+// A set that has each b with which a request has something to do, so that few are tried in vain; kind 6 has b 0 alone.
+fn to_do(ground: &Ground, kind: HierarchyKind, a: usize) -> u64
+    requires { a < 64 }
+    ensures { ToDo ground.now.site (kind_number kind) a result }
 {
-    let order = site.roles;
+    let order = &ground.site.roles;
     if !has(order.used, a) {
         return 0;
     }
     let below = order.juniors[a];
-    if kind != 7 {
-        return below;
+    match kind {
+        HierarchyKind::CreateRole | HierarchyKind::DeleteEdge => below,
+        HierarchyKind::DeleteRole => 1,
+        HierarchyKind::InsertEdge => minus(minus(order.used, below), ground.seniors[a]),
     }
-    minus(minus(order.used, below), ground.seniors[a])
 }
 
-// The set of the b with which a request of kind 5, 7 or 8 would be accepted.
-fn accepted_row(site: Site, ground: Ground, kind: u64, a: usize) -> u64
-    requires { (a < 64) × (site.modify.count ≤ 64) × Grounded site ground }
-    ensures { result ≡ set_of 64 (λ b. eqb (site_outcome site kind a b) 0) }
+// The set of the b with which the request of kind and a at place j of 4 times 64 would be accepted.
+fn accepted_row(ground: &Ground, tied: u64, j: usize) -> u64
+    requires { j < 256 }
+    ensures { result ≡ site_set ground.now.site tied j }
 {
+    let kind = kind_at(j);
+    let a = j % 64;
     let mut row: u64 = 0;
-    let mut rest = to_do(site, ground, kind, a);
+    let mut rest = to_do(ground, kind, a);
     while rest != 0 {
         let b = lowest(rest);
-        let outcome = site_outcome(site, ground, kind, a as u64, b as u64);
-        if outcome == 0 {
+        let outcome = site_outcome(ground, tied, kind, a, b);
+        if outcome.is_ok() {
             row = with(row, b);
         }
         rest = without_lowest(rest);
@@ -74,56 +88,27 @@ fn accepted_row(site: Site, ground: Ground, kind: u64, a: usize) -> u64
     row
 }
 
-// The same for kind 6, which has b 0 alone; tied is the set of the roles that cannot go.
-fn delete_row(site: Site, tied: u64, a: usize) -> u64
-    requires { (a < 64) × (site.modify.count ≤ 64) }
-    ensures { result ≡ set_of 64 (λ b. eqb (first (delete_rules site (has tied a) false a b)) 0) }
-{
-    if delete_outcome(site, has(tied, a), false, a as u64, 0) == 0 {
-        return 1;
-    }
-    0
-}
-
-// The set of the b with which the request of kind and a at place j of 4 times 64 would be accepted.
-fn row_at(site: Site, ground: Ground, tied: u64, j: usize) -> u64
-    requires { (j < 256) × (site.modify.count ≤ 64) × Grounded site ground }
-    ensures { result ≡ site_set site tied j }
-{
-    let kind = 5 + j / 64;
-    let a = j % 64;
-    if kind == 6 {
-        return delete_row(site, tied, a);
-    }
-    accepted_row(site, ground, kind as u64, a)
-}
-
 // All that would be accepted, gathered before a byte is written; what does not depend on the request is found once.
-fn gathered(p: Policy, o: u64) -> [u64; 256]
-    requires { Good p }
-    ensures { AcceptedRows p o result }
+fn gathered(p: &Policy, o: u64) -> [u64; 256]
+    requires { Good p.now }
+    ensures { AcceptedRows p.now o result }
 {
-    let site = site_of(p, o);
-    let ground = ground_of(site, true);
+    let ground = Ground::of(p, true, o);
     let tied = tied_roles(p);
     let mut rows = [0u64; 256];
-    let mut j = 0;
-    while j < 256 {
-        rows[j] = row_at(site, ground, tied, j);
-        j += 1;
+    for (j, row) in rows.iter_mut().enumerate() {
+        *row = accepted_row(&ground, tied, j);
     }
     rows
 }
 
 // How many entries there are.
-fn total(rows: [u64; 256]) -> usize
-    ensures { result ≡ count place_count (in_rows rows) }
+fn total(rows: &[u64; 256]) -> usize
+    ensures { result ≡ count place_count (in_rows rows.now) }
 {
     let mut n: usize = 0;
-    let mut j = 0;
-    while j < 256 {
-        n += size(rows[j]) as usize;
-        j += 1;
+    for row in rows {
+        n += size(*row) as usize;
     }
     n
 }
@@ -139,36 +124,32 @@ fn put_entry(out: &mut [u8], at: usize, i: usize)
 }
 
 // Writes the entries from the start of the buffer.
-fn put_entries(out: &mut [u8], rows: [u64; 256])
-    requires { length (entries_of (in_rows rows)) ≤ length out.old }
-    ensures { out.new ≡ sets out.old 0 (entries_of (in_rows rows)) }
+fn put_entries(out: &mut [u8], rows: &[u64; 256])
+    requires { length (entries_of (in_rows rows.now)) ≤ length out.old }
+    ensures { out.new ≡ sets out.old 0 (entries_of (in_rows rows.now)) }
 {
     let mut at = 0;
-    let mut i = 0;
-    while i < 16384 {
+    for i in 0..16384 {
         if has(rows[i / 64], i % 64) {
             put_entry(out, at, i);
             at += 3;
         }
-        i += 1;
     }
 }
 
-// The listing of an officer into a lent buffer.
-pub fn list(p: Policy, o: u64, out: &mut [u8]) -> Listed
-    requires { Good p }
-    ensures { ListingOf p o out.old result out.new }
+// The listing of an officer into a lent buffer: the count of entries.
+pub fn list(p: &Policy, o: u64, out: &mut [u8]) -> Result<usize, Refusal>
+    requires { Good p.now }
+    ensures { ListingOf p.now o out.old result out.new }
 {
-    let people = p.people;
-    let users = people.users;
-    if users.count as u64 <= o {
-        return Listed::Unknown;
+    if p.people.users.count as u64 <= o {
+        return Err(Refusal::UnknownName);
     }
     let rows = gathered(p, o);
-    let n = total(rows);
+    let n = total(&rows);
     if out.len() < 3 * n {
-        return Listed::Short;
+        return Err(Refusal::BufferTooShort);
     }
-    put_entries(out, rows);
-    Listed::Entries(n)
+    put_entries(out, &rows);
+    Ok(n)
 }

@@ -14,6 +14,7 @@ use Rattle.sets.specs.Tests.{◌and◌, neg}
 use Rattle.sets.specs.Sets.{has, subset}
 use Rattle.sets.proofs.Tests.{by_test, and_l, and_r, or_cases, neg_false}
 use Rattle.sets.proofs.Builders.{set_of_lt, in_set_of, subset_at, subset_of}
+use Rattle.sets.proofs.Digits.{has_below}
 use Rattle.policy.specs.declared.Policy.{Policy}
 use Rattle.policy.specs.Build.{put_roles, with_users, with_permissions}
 use Rattle.policy.specs.Good.{Good, GoodSets}
@@ -124,3 +125,10 @@ module _ (v : View) (b : ℕ) where
   pub revoke_known : first (revoke_rules v b) ≡ 0 → ViewKnown v b
   unfolding revoke_rules condition nonzero ◌and◌ neg
   revoke_known e = known_by (revoke_rules v b) refl refl e
+
+  -- so the role has a number below 64
+  pub assign_below : v.roles.used < 2 ^ 64 → first (assign_rules v b) ≡ 0 → b < 64
+  assign_below u e = has_below 64 _ b u (assign_known e).role
+
+  pub revoke_below : v.roles.used < 2 ^ 64 → first (revoke_rules v b) ≡ 0 → b < 64
+  revoke_below u e = has_below 64 _ b u (revoke_known e).role

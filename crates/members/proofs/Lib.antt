@@ -1,4 +1,5 @@
 pub mod Laws
+pub mod Decided
 pub mod Numbers
 pub mod Agreement
 pub mod Keep

@@ -5,9 +5,8 @@ use Prim.Native.Nat.{ℕ}
 use borrow.Author.Tests.{ltb-true}
 use Rattle.sets.proofs.Tests.{and_r}
 use Rattle.policy.specs.declared.Policy.{Policy}
-use Rattle.policy.specs.declared.Answer.{Answer}
 use Rattle.policy.specs.Good.{Good}
-use Rattle.policy.specs.Outcome.{Refusals, first, answer}
+use Rattle.policy.specs.Outcome.{Answer, Refusals, first, answer}
 use Rattle.members.specs.Rules.{user_view, permission_view, assign_rules, revoke_rules, assign_user, revoke_user, assign_permission, revoke_permission}
 use Rattle.policy.proofs.Outcomes.{answer_outcome, answer_policy}
 use Rattle.policy.proofs.FirstLaws.{answer-unchanged, answer_number}

@@ -1,5 +1,5 @@
 -- Kinds 1 to 4. Document 01, "Order, ranges, tables", "The eight requests" and "Outcome numbers".
-use Rattle.std.specs.Prelude.{◌≡◌, Bool, ℕ, eqb, ltb, get_or}
+use Rattle.std.specs.Prelude.{◌≡◌, Bool, ℕ, eqb, ltb, get_or, Result, Ok, Err}
 use Rattle.sets.specs.Tests.{◌and◌, ◌or◌, neg, ◌implies◌}
 use Rattle.sets.specs.Sets.{has, all, any, set_of}
 use Rattle.order.specs.Order.{senior, reached}
@@ -8,11 +8,9 @@ use Rattle.policy.specs.declared.Policy.{Policy}
 use Rattle.policy.specs.declared.Row.{Row}
 use Rattle.policy.specs.declared.Table.{Table}
 use Rattle.policy.specs.declared.Tables.{Tables}
-use Rattle.policy.specs.declared.Answer.{Answer}
-use Rattle.policy.specs.declared.Touched.{Touched}
-use Rattle.policy.specs.declared.Change.{Change}
+use Rattle.policy.specs.declared.Refusal.{Refusal}
 use Rattle.policy.specs.Build.{empty_row, put_roles, with_users, with_permissions}
-use Rattle.policy.specs.Outcome.{Refusals, accept, refuse, first, answer}
+use Rattle.policy.specs.Outcome.{Answer, number, Refusals, accept, refuse, first, answer}
 use Rattle.members.specs.declared.View.{View}
 
 -- "What kinds 1 and 2 look at: the counts of users, roles in use, both orders, the officer's administrative set, user a's roles, and the one
@@ -114,14 +112,10 @@ with_role mine b = set_of 64 (λ x. eqb x b or has mine x)
 unfoldable pub without_role : ℕ → ℕ → ℕ
 without_role mine b = set_of 64 (λ x. has mine x and neg (eqb x b))
 
--- what kinds 1 and 3, and kinds 2 and 4, make of the user or permission of a view; the order of roles stays
-abbrev pub assigned : Touched → View → ℕ → Change
-assigned touched v b =
-    record { outcome = first (assign_rules v b); number = 0; touched = touched; roles = with_role v.mine b; order = v.roles }
-
-abbrev pub revoked : Touched → View → ℕ → Change
-revoked touched v b =
-    record { outcome = first (revoke_rules v b); number = 0; touched = touched; roles = without_role v.mine b; order = v.roles }
+-- what kinds 1 and 3, and kinds 2 and 4, make of the explicit roles of a user or permission: those after, or the first refusal
+abbrev pub Becomes : Refusals → ℕ → Result ℕ Refusal → Type 0
+Becomes rules after (Ok roles) = (first rules ≡ 0) × (roles ≡ after)
+Becomes rules after (Err r) = number r ≡ first rules
 
 -- kind 1: "put user a in role b"
 unfoldable pub assign_user : Policy → ℕ → ℕ → ℕ → Answer

@@ -14,7 +14,7 @@ use Rattle.sets.specs.Tests.{◌or◌, pick}
 use Rattle.sets.proofs.Tests.{by_test, clash, not_so, and_i, and_l, and_r, or_fails, or_fails_l, or_fails_r}
 use Rattle.sets.proofs.Quantifiers.{least_is, least_le, least_below, least_at}
 use Rattle.number.specs.Number.{byte, ends, last_of, value_of, is_long, is_over, ends_with, num_at}
-use Rattle.number.specs.declared.Num.TheVariants.{Value, Refused}
+use Rattle.number.specs.Number.{Value, Refused}
 use Rattle.number.proofs.Values.{value_low, scale_most}
 
 -- ---- the tests of the last byte

@@ -12,7 +12,7 @@ use lib.ListN.{length, get_or}
 use Rattle.sets.specs.Tests.{◌or◌}
 use Rattle.sets.proofs.Loops.{None, none_begin, none_turn, found_least, none_least}
 use Rattle.number.specs.Number.{byte, ends, last_of, value_of, Before, is_long, is_over, ends_with, num_at}
-use Rattle.number.specs.declared.Num.TheVariants.{Value, Refused}
+use Rattle.number.specs.Number.{Value, Refused}
 use Rattle.number.proofs.Values.{value_low, group_most, scale_most}
 use Rattle.number.proofs.Numbers.{Number, number_is, number_fits, number_here}
 

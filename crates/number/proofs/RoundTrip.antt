@@ -12,7 +12,7 @@ use lib.ListN.{length, get_or, take, drop, length-take, length-drop}
 use lib.Seq.{drop-cons, sets}
 use Rattle.sets.proofs.Tests.{by_test}
 use Rattle.number.specs.Number.{byte, value_of, groups_of, num_at, num_bytes, part}
-use Rattle.number.specs.declared.Num.TheVariants.{Value}
+use Rattle.number.specs.Number.{Value}
 use Rattle.number.proofs.Parts.{Stands, stands_byte, stands_inside, stands_second, part_stands}
 use Rattle.number.proofs.Stores.{sets_stands}
 use Rattle.number.proofs.Values.{byte_next, value_low, value_first, value_pos, value_one, value_none}

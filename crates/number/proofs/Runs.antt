@@ -2,11 +2,17 @@
 -- Assumes nothing.
 use Prim.Native.Nat.{ℕ, zero, suc, ◌+◌, ◌-◌, ◌<◌, ◌≤◌}
 use mathlib.Core.Path.{◌≡◌, refl, sym, ◌∙◌}
+use Rattle.std.specs.Prelude.{Result, Ok, Err, IsErrAnd}
 use mathlib.Core.Logic.{◌⊎◌, inl, inr, ⊎_elim}
 use native.Mathlib.Omega.{arith}
-use Rattle.number.specs.Run.{Step, go, stop, on_num, on_step, run}
-use Rattle.number.specs.declared.Num.{Num}
-use Rattle.number.specs.declared.Num.TheVariants.{Value, Refused}
+use Rattle.number.specs.declared.NumberError.{NumberError}
+use Rattle.number.specs.Number.{Num, Value, Refused, number_of, place_of}
+use Rattle.number.specs.Run.{Step, go, stop, as_step, on_num, on_step, run}
+
+-- a refusal that is handed on
+pub err_step : {A : Type 0} (r : Result (A × ℕ) NumberError) (e : NumberError) → IsErrAnd r (λ f. f ≡ e) → as_step r ≡ stop (number_of e) (place_of e)
+err_step (Ok x) e h = absurd h
+err_step (Err f) e h = rw h
 
 -- ---- a loop that does a run: the run from here gives what the run from the start gives
 

@@ -9,8 +9,8 @@ use native.Mathlib.Omega.{arith}
 use lib.ListN.{length}
 use Rattle.sets.specs.Tests.{pick}
 use Rattle.number.specs.Number.{num_at, num_bytes, tested}
-use Rattle.number.specs.declared.Num.{Num}
-use Rattle.number.specs.declared.Num.TheVariants.{Value, Refused}
+use Rattle.number.specs.Number.{Num}
+use Rattle.number.specs.Number.{Value, Refused}
 use Rattle.number.proofs.Parts.{Stands}
 use Rattle.number.proofs.Numbers.{num_next, refused_next}
 use Rattle.number.proofs.RoundTrip.{read_written}

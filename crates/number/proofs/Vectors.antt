@@ -7,8 +7,8 @@ use lib.ListN.{replicate}
 use Rattle.sets.specs.Tests.{◌and◌, ◌or◌}
 use Rattle.sets.specs.Sets.{least}
 use Rattle.number.specs.Number.{last_of, value_of, is_long, is_over, ends_with, num_at, groups_of, num_bytes}
-use Rattle.number.specs.declared.Num.{Num}
-use Rattle.number.specs.declared.Num.TheVariants.{Value, Refused}
+use Rattle.number.specs.Number.{Num}
+use Rattle.number.specs.Number.{Value, Refused}
 
 -- nine bytes that are continued, and a tenth
 abbrev tenth : ℕ → List ℕ

@@ -1,11 +1,16 @@
 -- A number of the policy file. Document 01, "The policy file":
 -- "Numbers are in groups of seven bits, lowest group first, top bit set on all bytes but the last, shortest form, at most 64 bits."
 -- s is the input, a list of bytes; at is the place of the number's first byte.
-use Rattle.std.specs.Prelude.{ℕ, zero, suc, ◌+◌, ◌-◌, ◌*◌, ◌/◌, ◌%◌, ◌^◌, ◌≡◌, Bool, true, false, List, [], ◌∷◌, ltb, leb, eqb, length, get_or, take, drop}
+use Rattle.std.specs.Prelude.{ℕ, zero, suc, ◌+◌, ◌-◌, ◌*◌, ◌/◌, ◌%◌, ◌^◌, ◌≡◌, Bool, true, false, List, [], ◌∷◌, ltb, leb, eqb, length, get_or, take, drop, Result, Ok, Err}
 use Rattle.sets.specs.Tests.{◌and◌, ◌or◌, pick}
 use Rattle.sets.specs.Sets.{least}
-use Rattle.number.specs.declared.Num.{Num}
-use Rattle.number.specs.declared.Num.TheVariants.{Value, Refused}
+use Rattle.number.specs.declared.NumberError.{NumberError}
+use Rattle.number.specs.declared.NumberError.TheVariants.{Ended, Malformed, Unfit}
+
+-- What stands at a place: a number and the place past it, or the refusal's number and its place.
+pub data Num : Type 0 where
+  Value : ℕ → ℕ → Num
+  Refused : ℕ → ℕ → Num
 
 -- ---- reading
 
@@ -58,6 +63,21 @@ num_at s at = ends_with s at (last_of s at)
 abbrev pub tested : (ℕ → Bool) → ℕ → Num → Num
 tested t at (Value x next) = pick (t x) (Value x next) (Refused 22 at)
 tested t at (Refused c p) = Refused c p
+
+-- what the reader answers, in document 01's numbers
+abbrev pub number_of : NumberError → ℕ
+number_of (Ended p) = 20
+number_of (Malformed p) = 21
+number_of (Unfit p) = 22
+
+abbrev pub place_of : NumberError → ℕ
+place_of (Ended p) = p
+place_of (Malformed p) = p
+place_of (Unfit p) = p
+
+abbrev pub as_num : Result (ℕ × ℕ) NumberError → Num
+as_num (Ok r) = Value r.0 r.1
+as_num (Err e) = Refused (number_of e) (place_of e)
 
 -- "that part of the caller's own file": the bytes from one place up to another
 abbrev pub part : List ℕ → ℕ → ℕ → List ℕ

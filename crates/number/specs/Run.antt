@@ -1,12 +1,17 @@
 -- Readings one after the other, and bytes one after the other: what each loop of the file's reader and of its writer does.
-use Rattle.std.specs.Prelude.{ℕ, zero, suc, ◌+◌, List, [], ◌++◌}
-use Rattle.number.specs.declared.Num.{Num}
-use Rattle.number.specs.declared.Num.TheVariants.{Value, Refused}
+use Rattle.std.specs.Prelude.{ℕ, zero, suc, ◌+◌, List, [], ◌++◌, Result, Ok, Err}
+use Rattle.number.specs.declared.NumberError.{NumberError}
+use Rattle.number.specs.Number.{Num, Value, Refused, number_of, place_of}
 
 -- a reading goes on to a place, with what it has read, or stops, with the refusal's number and place
 pub data Step (A : Type 0) : Type 0 where
   go : ℕ → A → Step A
   stop : ℕ → ℕ → Step A
+
+-- what a reader answers, in document 01's numbers
+abbrev pub as_step : {A : Type 0} → Result (A × ℕ) NumberError → Step A
+as_step (Ok r) = go r.1 r.0
+as_step (Err e) = stop (number_of e) (place_of e)
 
 -- ---- "The first in reading order wins": what follows is read only where nothing before it was refused
 

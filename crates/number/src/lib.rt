@@ -3,19 +3,43 @@
 
 ghost use Rattle.std.specs.Prelude.{◌≡◌, ◌+◌, ◌≤◌, leb, length, get_or};
 ghost use Rattle.std.proofs.lemmas.List.Edits.{sets};
-ghost use Rattle.number.specs.Number.{Before, is_long, is_over, num_at, num_bytes};
+ghost use Rattle.number.specs.Number.{Before, is_long, is_over, num_at, num_bytes, number_of, place_of, as_num};
 
-// What stands at a place.
-#[derive(Clone, Copy)]
-pub enum Num {
-    // The value, and the place past it.
-    Value(u64, usize),
-    // The refusal's number, and its place.
-    Refused(u8, usize),
+// Why no number is read, each with its place.
+#[derive(Clone, Copy, PartialEq, Eq, Debug)]
+pub enum NumberError {
+    // 20: the input ends inside or before the number.
+    Ended(usize),
+    // 21: it is not in its shortest form, or over 64 bits.
+    Malformed(usize),
+    // 22: it is a number, and none that may stand there.
+    Unfit(usize),
+}
+
+impl NumberError {
+    // Document 01's number of the refusal.
+    pub fn number(self) -> u64
+        ensures { result ≡ number_of self }
+    {
+        match self {
+            NumberError::Ended(_) => 20,
+            NumberError::Malformed(_) => 21,
+            NumberError::Unfit(_) => 22,
+        }
+    }
+
+    pub fn place(self) -> usize
+        ensures { result ≡ place_of self }
+    {
+        match self {
+            NumberError::Ended(place) => place,
+            NumberError::Malformed(place) => place,
+            NumberError::Unfit(place) => place,
+        }
+    }
 }
 
 // The groups before a number's last byte.
-#[derive(Clone, Copy)]
 struct Groups {
     // The place of the last byte.
     last: usize,
@@ -25,18 +49,11 @@ struct Groups {
     scale: u64,
 }
 
-// A byte as a u64.
-fn wide(x: u8) -> u64
-    ensures { result ≡ x }
-{
-    x as u64
-}
-
 // Is the top bit of the byte at i set? Past the end there is none.
 fn is_continued(s: &[u8], i: usize) -> bool
     ensures { result ≡ leb 128 (get_or s.now i 0) }
 {
-    if i < s.len() { 128 <= s[i] } else { false }
+    i < s.len() && 128 <= s[i]
 }
 
 // The groups that are continued: nine at most, since a tenth byte is a number's last.
@@ -46,12 +63,13 @@ fn read_groups(s: &[u8], at: usize) -> Groups
     let mut last = at;
     let mut value: u64 = 0;
     let mut scale: u64 = 1;
-    let mut n: usize = 0;
-    while n < 9 && is_continued(s, last) {
-        value = value + wide(s[last]) % 128 * scale;
-        scale = scale * 128;
-        last = last + 1;
-        n = n + 1;
+    for _n in 0..9usize {
+        if !is_continued(s, last) {
+            break;
+        }
+        value += u64::from(s[last]) % 128 * scale;
+        scale *= 128;
+        last += 1;
     }
     Groups { last, value, scale }
 }
@@ -73,24 +91,22 @@ fn is_over(n: usize, b: u64) -> bool
     n == 9 && 1 < b
 }
 
-// What stands at `at`: a number, or why there is none.
-pub fn read_number(s: &[u8], at: usize) -> Num
-    ensures { result ≡ num_at s.now at }
+// What stands at `at`: a number with the place past it, or why there is none.
+pub fn read_number(s: &[u8], at: usize) -> Result<(u64, usize), NumberError>
+    ensures { as_num result ≡ num_at s.now at }
 {
-    let g = read_groups(s, at);
-    let last = g.last;
+    let Groups { last, value, scale } = read_groups(s, at);
     let end = s.len();
     if end <= last {
-        return Num::Refused(20, end);
+        return Err(NumberError::Ended(end));
     }
-    let b = wide(s[last]);
+    let b = u64::from(s[last]);
     let n = last - at;
     if is_long(n, b) || is_over(n, b) {
-        return Num::Refused(21, at);
+        return Err(NumberError::Malformed(at));
     }
-    let value = g.value + b * g.scale;
     let next = last + 1;
-    Num::Value(value, next)
+    Ok((value + b * scale, next))
 }
 
 // How many bytes `x` takes.
@@ -100,8 +116,8 @@ pub fn number_len(x: u64) -> usize
     let mut v = x;
     let mut n: usize = 1;
     while 128 <= v {
-        v = v / 128;
-        n = n + 1;
+        v /= 128;
+        n += 1;
     }
     n
 }
@@ -115,8 +131,8 @@ pub fn write_number(out: &mut [u8], at: usize, x: u64) -> usize
     let mut i = at;
     while 128 <= v {
         out[i] = (v % 128 + 128) as u8;
-        v = v / 128;
-        i = i + 1;
+        v /= 128;
+        i += 1;
     }
     out[i] = v as u8;
     i + 1

@@ -1,3 +1,4 @@
+pub mod Joined
 pub mod Relations
 pub mod Lists
 pub mod Loops

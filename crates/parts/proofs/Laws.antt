@@ -3,21 +3,27 @@
 use Prim.Native.Nat.{ℕ, ◌+◌, ◌-◌, ◌<◌, ◌≤◌}
 use mathlib.Core.Path.{◌≡◌, refl}
 use mathlib.Core.Bool.{Bool, true, false}
-use mathlib.Core.List.{List}
+use mathlib.Core.List.{List, []}
 use native.Mathlib.Omega.{arith}
 use borrow.Author.Tests.{le-leb, lt-leb}
 use lib.Dec.{eqb}
 use lib.ListN.{length}
+use Rattle.std.specs.Prelude.{Result, Ok, Err, IsErrAnd}
+use Rattle.parts.specs.declared.TableName.{TableName}
+use Rattle.parts.specs.declared.TableName.TheVariants.{Assign, Revoke, Assignp, Revokep, Modify}
+use Rattle.parts.specs.declared.PartError.{PartError}
+use Rattle.parts.specs.declared.PartError.TheVariants as error
 use Rattle.sets.specs.Tests.{pick}
 use Rattle.sets.proofs.Tests.{and_i, and_fails_l, and_fails_r}
 use Rattle.number.specs.Run.{Step, go, stop}
-use Rattle.reading.specs.declared.How as how
+use Rattle.reading.specs.File as how
 use Rattle.reading.specs.declared.Places.{Places}
-use Rattle.reading.specs.File.{File, file_at, read_policy}
+use Rattle.reading.specs.declared.File.{File}
+use Rattle.reading.specs.File.{file_at, read_policy}
 use Rattle.reading.proofs.Bounds.{Placed}
 use Rattle.reading.proofs.Theorems.{file_placed}
-use Rattle.parts.specs.declared.Part.TheVariants.{Found, Refused}
-use Rattle.parts.specs.Parts.{is_table, start_of, end_of, part_of, part_at}
+use Rattle.parts.specs.Parts.{Found, Refused}
+use Rattle.parts.specs.Parts.{is_table, table_number, as_part, start_of, end_of, part_of, part_at, bytes_of}
 
 -- ---- a table's number
 module _ (k : ℕ) where
@@ -74,6 +80,24 @@ found_inside s k {a} {n} q =
     let i = file_inside k w.3 in
     (omega (arith, i.some, w.5), omega (arith, i.within, i.some, w.4, w.5))
 
-pub part_accepted : (s : List ℕ) (k : ℕ) {a n : ℕ} → part_at s k ≡ Found a n → (read_policy s).how ≡ how.TheVariants.Accepted
+pub part_accepted : (s : List ℕ) (k : ℕ) {a n : ℕ} → part_at s k ≡ Found a n → (read_policy s).how ≡ how.Accepted
 unfolding read_policy
 part_accepted s k q = let w = part_found s k q in rw w.3
+
+-- a refusal that is handed on
+pub part_stops : (r : Result (ℕ × ℕ) PartError) (e : PartError) → IsErrAnd r (λ f. f ≡ e) → as_part r ≡ as_part (Err e)
+part_stops (Ok x) e h = absurd h
+part_stops (Err f) e h = rw h
+
+-- a table's number
+pub named : (table : TableName) {k : ℕ} → table_number table ≡ k → is_table k ≡ true
+named Assign e = rw (← e) (table_is 1 (omega arith) (omega arith))
+named Revoke e = rw (← e) (table_is 2 (omega arith) (omega arith))
+named Assignp e = rw (← e) (table_is 3 (omega arith) (omega arith))
+named Revokep e = rw (← e) (table_is 4 (omega arith) (omega arith))
+named Modify e = rw (← e) (table_is 5 (omega arith) (omega arith))
+
+-- a refusal has no bytes
+pub nothing_found : (s : List ℕ) (e : PartError) → [] ≡ bytes_of s (as_part (Err e))
+nothing_found s error.NoTable = refl
+nothing_found s (error.File e) = refl

@@ -9,9 +9,10 @@ use native.Mathlib.Omega.{arith}
 use Rattle.sets.specs.Tests.{pick}
 use Rattle.number.specs.Number.{part}
 use Rattle.number.specs.Run.{Step, go, stop}
-use Rattle.reading.specs.declared.How as how
-use Rattle.reading.specs.File.{File, file_at, loaded, read_policy}
-use Rattle.parts.specs.declared.Part.TheVariants.{Refused}
+use Rattle.reading.specs.File as how
+use Rattle.reading.specs.declared.File.{File}
+use Rattle.reading.specs.File.{file_at, loaded, read_policy}
+use Rattle.parts.specs.Parts.{Refused}
 use Rattle.parts.specs.Parts.{is_table, start_of, end_of, part_of, part_at, part_bytes}
 use Rattle.parts.proofs.Laws.{file_inside}
 
@@ -26,12 +27,12 @@ module _ (s : List ℕ) (k : ℕ) where
 
   -- "a table number not 1 to 5 gives 1, then a bad file its own refusal"
   pub part_refused : {c p : ℕ} → part_at s k ≡ Refused c p
-      → ((is_table k ≡ false) × (c ≡ 1) × (p ≡ 0)) ⊎ ((is_table k ≡ true) × ((read_policy s).how ≡ how.TheVariants.Refused c p))
+      → ((is_table k ≡ false) × (c ≡ 1) × (p ≡ 0)) ⊎ ((is_table k ≡ true) × ((read_policy s).how ≡ how.Refused c p))
   unfolding part_at read_policy
   part_refused {c} {p} q = by (is_table k) refl (file_at s) q
     where
       by : (t : Bool) → is_table k ≡ t → (w : Step File) → pick t (part_of k w) (Refused 1 0) ≡ Refused c p
-          → ((is_table k ≡ false) × (c ≡ 1) × (p ≡ 0)) ⊎ ((is_table k ≡ true) × ((loaded w).how ≡ how.TheVariants.Refused c p))
+          → ((is_table k ≡ false) × (c ≡ 1) × (p ≡ 0)) ⊎ ((is_table k ≡ true) × ((loaded w).how ≡ how.Refused c p))
       by true t (go e f) q = absurd (let z : ◌≡◌ {A = ℕ} 0 1 = cc in omega arith)
       by true t (stop d r) q = inr (t, (cc))
       by false t w q = inl (t, (cc), (cc))

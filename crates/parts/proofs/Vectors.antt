@@ -3,12 +3,12 @@
 use Prim.Native.Nat.{ℕ}
 use mathlib.Core.Path.{◌≡◌, refl}
 use mathlib.Core.List.{List, [], ◌∷◌, ◌++◌, map}
-use Rattle.reading.specs.declared.How as how
-use Rattle.reading.specs.declared.How.TheVariants.{Accepted}
+use Rattle.reading.specs.File as how
+use Rattle.reading.specs.File.{Accepted}
 use Rattle.reading.proofs.Opened.{reading_opened}
 use Rattle.reading.specs.File.{read_policy}
-use Rattle.parts.specs.declared.Part.{Part}
-use Rattle.parts.specs.declared.Part.TheVariants.{Found, Refused}
+use Rattle.parts.specs.Parts.{Part}
+use Rattle.parts.specs.Parts.{Found, Refused}
 use Rattle.parts.specs.Parts.{is_table, start_of, end_of, part_at}
 
 -- document 01's file of 20 bytes, to its last number
@@ -23,17 +23,17 @@ file_of roles rows = (1 ∷ roles) ++ (1 ∷ 0 ∷ 0 ∷ 0 ∷ 0 ∷ 0 ∷ 0 ∷
 abbrev readings : List (List ℕ × how.How)
 readings =
     (listed ++ (3 ∷ []), Accepted)
-    ∷ ([], how.TheVariants.Refused 20 0)
-    ∷ (listed, how.TheVariants.Refused 20 19)
-    ∷ (2 ∷ [], how.TheVariants.Refused 22 0)
-    ∷ (1 ∷ 3 ∷ 0 ∷ 0x81 ∷ 0 ∷ [], how.TheVariants.Refused 21 3)
-    ∷ (1 ∷ 3 ∷ 0 ∷ 4 ∷ [], how.TheVariants.Refused 22 3)
-    ∷ (listed ++ (4 ∷ []), how.TheVariants.Refused 22 19)
-    ∷ (listed ++ (3 ∷ 0 ∷ []), how.TheVariants.Refused 27 20)
-    ∷ (file_of (3 ∷ 1 ∷ 0 ∷ []) (0 ∷ []), how.TheVariants.Refused 23 0)
-    ∷ (file_of (3 ∷ 0 ∷ 0 ∷ []) (1 ∷ 0 ∷ 0 ∷ 1 ∷ []), how.TheVariants.Refused 24 0)
-    ∷ (file_of (15 ∷ 0 ∷ 1 ∷ 3 ∷ 3 ∷ []) (1 ∷ 0 ∷ 0 ∷ 2 ∷ []), how.TheVariants.Refused 25 0)
-    ∷ (file_of (31 ∷ 0 ∷ 1 ∷ 3 ∷ 7 ∷ 15 ∷ []) (2 ∷ 0 ∷ 0 ∷ 3 ∷ 0 ∷ 1 ∷ 4 ∷ []), how.TheVariants.Refused 26 0)
+    ∷ ([], how.Refused 20 0)
+    ∷ (listed, how.Refused 20 19)
+    ∷ (2 ∷ [], how.Refused 22 0)
+    ∷ (1 ∷ 3 ∷ 0 ∷ 0x81 ∷ 0 ∷ [], how.Refused 21 3)
+    ∷ (1 ∷ 3 ∷ 0 ∷ 4 ∷ [], how.Refused 22 3)
+    ∷ (listed ++ (4 ∷ []), how.Refused 22 19)
+    ∷ (listed ++ (3 ∷ 0 ∷ []), how.Refused 27 20)
+    ∷ (file_of (3 ∷ 1 ∷ 0 ∷ []) (0 ∷ []), how.Refused 23 0)
+    ∷ (file_of (3 ∷ 0 ∷ 0 ∷ []) (1 ∷ 0 ∷ 0 ∷ 1 ∷ []), how.Refused 24 0)
+    ∷ (file_of (15 ∷ 0 ∷ 1 ∷ 3 ∷ 3 ∷ []) (1 ∷ 0 ∷ 0 ∷ 2 ∷ []), how.Refused 25 0)
+    ∷ (file_of (31 ∷ 0 ∷ 1 ∷ 3 ∷ 7 ∷ 15 ∷ []) (2 ∷ 0 ∷ 0 ∷ 3 ∷ 0 ∷ 1 ∷ 4 ∷ []), how.Refused 26 0)
     ∷ []
 
 -- a table's number, and where it stands in document 01's file

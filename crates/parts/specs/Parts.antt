@@ -1,15 +1,30 @@
 -- The part of one table. Document 01, "The policy file":
 -- "A caller may ask for one table's bytes and is handed that part of the caller's own file, from its count to its last row;
 -- a table number not 1 to 5 gives 1, then a bad file its own refusal, both with an empty part."
-use Rattle.std.specs.Prelude.{ℕ, ◌+◌, ◌-◌, Bool, List, [], eqb, leb}
+use Rattle.std.specs.Prelude.{ℕ, ◌+◌, ◌-◌, ◌≡◌, Bool, true, false, List, [], eqb, leb, Result, Ok, Err, MatchResult}
 use Rattle.sets.specs.Tests.{◌and◌, pick}
 use Rattle.number.specs.Number.{part}
 use Rattle.number.specs.Run.{Step, go, stop}
-use Rattle.reading.specs.declared.How as how
 use Rattle.reading.specs.declared.Places.{Places}
-use Rattle.reading.specs.File.{File, file_at}
-use Rattle.parts.specs.declared.Part.{Part}
-use Rattle.parts.specs.declared.Part.TheVariants.{Found, Refused}
+use Rattle.reading.specs.declared.File.{File}
+use Rattle.reading.specs.File.{file_at, error_number, error_place}
+use Rattle.parts.specs.declared.TableName.{TableName}
+use Rattle.parts.specs.declared.TableName.TheVariants.{Assign, Revoke, Assignp, Revokep, Modify}
+use Rattle.parts.specs.declared.PartError.{PartError}
+use Rattle.parts.specs.declared.PartError.TheVariants as error
+
+-- where a table stands: the place of its first byte and how many bytes it has; or the refusal's number and its place
+pub data Part : Type 0 where
+  Found : ℕ → ℕ → Part
+  Refused : ℕ → ℕ → Part
+
+-- "can-assign, can-revoke, the same two for permissions, can-modify"
+abbrev pub table_number : TableName → ℕ
+table_number Assign = 1
+table_number Revoke = 2
+table_number Assignp = 3
+table_number Revokep = 4
+table_number Modify = 5
 
 -- "a table number not 1 to 5"
 unfoldable pub is_table : ℕ → Bool
@@ -40,8 +55,14 @@ bytes_of s (Refused c p) = []
 unfoldable pub part_bytes : List ℕ → ℕ → List ℕ
 part_bytes s k = bytes_of s (part_at s k)
 
--- A file's refusal as a part's. It is asked of no other file; a function has an answer for every `How`, so an accepted one gets a number that no
--- refusal has.
-abbrev pub refusal_of : how.How → Part
-refusal_of how.TheVariants.Accepted = Refused 0 0
-refusal_of (how.TheVariants.Refused c p) = Refused c p
+-- ---- what the code answers
+
+-- a number names a table, or it is "a table number not 1 to 5"
+abbrev pub Names : ℕ → Result TableName PartError → Type 0
+Names number r = MatchResult r (λ table. table_number table ≡ number) (λ e. (e ≡ error.NoTable) × (is_table number ≡ false))
+
+-- "1", or "a bad file its own refusal"
+abbrev pub as_part : Result (ℕ × ℕ) PartError → Part
+as_part (Ok r) = Found r.0 r.1
+as_part (Err error.NoTable) = Refused 1 0
+as_part (Err (error.File e)) = Refused (error_number e) (error_place e)

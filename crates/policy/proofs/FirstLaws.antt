@@ -9,8 +9,7 @@ use borrow.Author.Tests.{eq-eqb, ne_eqb, eqb-true, eqb-false}
 use Rattle.sets.specs.Tests.{◌and◌, ◌or◌, neg, pick}
 use Rattle.sets.proofs.Tests.{by_test, clash, and_l, and_r, and_given, and_fails_l, or_given, or_l, or_r, neg_i, neg_e, neg_fails}
 use Rattle.policy.specs.declared.Policy.{Policy}
-use Rattle.policy.specs.declared.Answer.{Answer}
-use Rattle.policy.specs.Outcome.{Refusals, accept, refuse, first, answer}
+use Rattle.policy.specs.Outcome.{Answer, Refusals, accept, refuse, first, answer}
 use Rattle.policy.proofs.Outcomes.{answer_outcome, refused_stays}
 
 -- ---- when a number is given

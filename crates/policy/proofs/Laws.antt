@@ -1,12 +1,8 @@
--- Laws of lists that a policy holds: past the last member a store changes nothing, and a reading gives nothing. And the permission question of
--- whole sets: a user may exercise a permission exactly if what the roles held reach meets what is granted.
+-- The permission question of whole sets: a user may exercise a permission exactly if what the roles held reach meets what is granted.
 -- Assumes nothing.
-use mathlib.Core.Path.{◌≡◌, refl, ap, ◌∙◌}
+use mathlib.Core.Path.{◌≡◌, ap, ◌∙◌}
 use mathlib.Core.Bool.{Bool}
-use mathlib.Core.List.{List, [], ◌∷◌}
-use Prim.Native.Nat.{ℕ, zero, suc, ◌≤◌}
-use native.Mathlib.Nat.{not-suc-le-zero, le_of_suc-le-suc}
-use lib.ListN.{length, set}
+use Prim.Native.Nat.{ℕ}
 use Rattle.sets.specs.Tests.{◌and◌}
 use Rattle.sets.specs.Sets.{has, any}
 use Rattle.sets.proofs.Tests.{and_comm}
@@ -14,11 +10,6 @@ use Rattle.sets.proofs.Quantifiers.{any_same}
 use Rattle.sets.proofs.Builders.{has-set_of}
 use Rattle.order.specs.Order.{Relation, reached}
 use Rattle.policy.specs.Question.{may_exercise}
-
-pub set_past : {A : Type 0} (l : List A) (i : ℕ) (v : A) → length l ≤ i → set l i v ≡ l
-set_past [] i v h = refl
-set_past (x ∷ l) zero v h = absurd (not-suc-le-zero h)
-set_past (x ∷ l) (suc i) v h = ap (λ t. x ∷ t) (set_past l i v (le_of_suc-le-suc h))
 
 pub reached_meets : (f : Relation) (held granted : ℕ) → any 64 (λ x. has (reached f held) x and has granted x) ≡ may_exercise f held granted
 unfolding reached may_exercise

@@ -1,4 +1,5 @@
 pub mod Laws
+pub mod Rows
 pub mod Outcomes
 pub mod Changes
 pub mod FirstLaws

@@ -1,8 +1,34 @@
 -- Document 01, "Outcome numbers": "First that holds, in this order. Each leaves the policy unchanged and returns number 0 beside it."
-use Rattle.std.specs.Prelude.{Bool, ℕ, eqb}
+use Rattle.std.specs.Prelude.{Bool, ℕ, eqb, Result, Ok, Err}
 use Rattle.sets.specs.Tests.{pick}
 use Rattle.policy.specs.declared.Policy.{Policy}
-use Rattle.policy.specs.declared.Answer.{Answer}
+use Rattle.policy.specs.declared.Refusal.{Refusal}
+use Rattle.policy.specs.declared.Refusal.TheVariants.{UnknownKind, UnknownName, NotAllowed, NotSatisfied, NothingToDo, NoFreeRole, RoleNamed, RoleHeld}
+use Rattle.policy.specs.declared.Refusal.TheVariants.{RangeSpoilt, BufferTooShort}
+
+-- what a request gives: the outcome, the number beside it, and the policy after
+pub record Answer : Type 0 where
+  pub outcome : ℕ
+  pub number : ℕ
+  pub policy : Policy
+
+-- the table's number of each refusal
+abbrev pub number : Refusal → ℕ
+number UnknownKind = 1
+number UnknownName = 2
+number NotAllowed = 3
+number NotSatisfied = 4
+number NothingToDo = 5
+number NoFreeRole = 6
+number RoleNamed = 7
+number RoleHeld = 8
+number RangeSpoilt = 9
+number BufferTooShort = 10
+
+-- the outcome of what is done or refused: "Acceptance is 0"
+abbrev pub outcome_of : {A : Type 0} → Result A Refusal → ℕ
+outcome_of (Ok x) = 0
+outcome_of (Err r) = number r
 
 -- the refusals of a request in their order, each a condition and its number
 pub data Refusals : Type 0 where

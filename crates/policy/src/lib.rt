@@ -1,14 +1,14 @@
 // The policy: two orders, users, permissions and five tables, by value. It is changed by the builders below and by nothing else.
 #![tactic(auto)]
 
-ghost use Rattle.std.specs.Prelude.{◌≡◌, get_or};
+ghost use Rattle.std.specs.Prelude.{◌≡◌, get_or, set};
 ghost use Rattle.order.specs.Order.{senior};
-ghost use Rattle.policy.specs.Build.{empty_order, empty_members, empty_row, empty_table, empty_ranges, empty_tables, empty_policy, put_roles, with_permissions};
-ghost use Rattle.policy.specs.Change.{unchanged, reordered, users_after, permissions_after, changed};
-ghost use Rattle.policy.specs.Outcome.{refused, accepted};
+ghost use Rattle.policy.specs.Build.{empty_row, empty_table, empty_ranges, empty_policy};
+ghost use Rattle.policy.specs.Change.{changed, beside};
+ghost use Rattle.policy.specs.Outcome.{number};
 ghost use Rattle.policy.specs.Question.{may_exercise, question};
 
-use order::{Order, reached};
+use order::Order;
 use ranges::{AdminId, ModifyRow, RoleId};
 use sets::both;
 
@@ -74,59 +74,60 @@ pub struct Policy {
     pub modify: Ranges,
 }
 
-// What a request gives: the outcome, the number beside it, and the policy after.
-#[derive(Clone, Copy)]
-pub struct Answer {
-    pub outcome: u64,
-    pub number: u64,
-    pub policy: Policy,
+// Why a request is refused: the outcomes but acceptance, each with its number.
+#[derive(Clone, Copy, PartialEq, Eq, Debug)]
+pub enum Refusal {
+    // the kind is none of the eight, or a role is deleted with a second number that is not 0
+    UnknownKind = 1,
+    // a user or permission that there is not, or a role that is not in use
+    UnknownName = 2,
+    // the officer may use no row that allows it
+    NotAllowed = 3,
+    // there are such rows, and what each needs or bars is not as it says
+    NotSatisfied = 4,
+    // it would change nothing
+    NothingToDo = 5,
+    // all 64 roles are in use
+    NoFreeRole = 6,
+    // some row names the role
+    RoleNamed = 7,
+    // a user or a permission is in the role
+    RoleHeld = 8,
+    // some authority range would be unsound after it
+    RangeSpoilt = 9,
+    // what is to be written is longer than the buffer
+    BufferTooShort = 10,
 }
 
-// The one part of a policy that a request touches.
-#[derive(Clone, Copy)]
-pub enum Touched {
-    // the roles of a user
-    User,
-    // the roles of a permission
-    Permission,
-    // the order of roles
-    Hierarchy,
-}
-
-// What a request decides, small enough to hand on: the outcome, the number beside it, what it touches, the roles that the user or permission has
-// after, and the order of roles after.
-#[derive(Clone, Copy)]
-pub struct Change {
-    pub outcome: u64,
-    pub number: u64,
-    pub touched: Touched,
-    pub roles: u64,
-    pub order: Order,
-}
-
-// The reply to the permission question: the user or the permission is unknown, or whether the user may exercise it.
-#[derive(Clone, Copy)]
-pub enum Reply {
-    Unknown,
-    Yes,
-    No,
-}
-
-fn empty_order() -> Order
-    ensures { result ≡ empty_order }
-{
-    Order {
-        used: 0,
-        juniors: [0u64; 64],
+impl Refusal {
+    // The number of the outcome.
+    pub fn number(self) -> u64
+        ensures { result ≡ number self }
+    {
+        self as u64
     }
 }
 
-fn empty_members() -> Members
-    ensures { result ≡ empty_members }
-{
-    Members {
-        count: 0,
-        roles: [0u64; 256],
+// What an accepted request changes, small enough to hand on.
+#[derive(Clone, Copy)]
+pub enum Change {
+    // the roles of a user
+    User(u64),
+    // the roles of a permission
+    Permission(u64),
+    // the order of roles; with it the number of the new role, or 0
+    Hierarchy(Order, u64),
+}
+
+impl Change {
+    // The number that acceptance returns beside it.
+    pub fn number(&self) -> u64
+        ensures { result ≡ beside self.now }
+    {
+        match self {
+            Change::Hierarchy(_, number) => *number,
+            _ => 0,
+        }
     }
 }
 
@@ -167,26 +168,19 @@ pub fn empty_ranges() -> Ranges
     }
 }
 
-fn empty_tables() -> Tables
-    ensures { result ≡ empty_tables }
-{
-    let table = empty_table();
-    Tables {
-        assign: table,
-        revoke: table,
-        assignp: table,
-        revokep: table,
-    }
-}
-
 // A policy with nothing in it: what a refused read yields.
 pub fn empty_policy() -> Policy
     ensures { result ≡ empty_policy }
 {
-    let order = empty_order();
-    let members = empty_members();
-    let tables = empty_tables();
-    let modify = empty_ranges();
+    let order = Order {
+        used: 0,
+        juniors: [0u64; 64],
+    };
+    let members = Members {
+        count: 0,
+        roles: [0u64; 256],
+    };
+    let table = empty_table();
     Policy {
         orders: Orders {
             roles: order,
@@ -197,171 +191,59 @@ pub fn empty_policy() -> Policy
             offices: [0u64; 256],
         },
         permissions: members,
-        tables,
-        modify,
+        tables: Tables {
+            assign: table,
+            revoke: table,
+            assignp: table,
+            revokep: table,
+        },
+        modify: empty_ranges(),
     }
 }
 
-// The policy with other permissions.
-pub fn with_permissions(p: Policy, permissions: Members) -> Policy
-    ensures { result ≡ with_permissions p permissions }
+// The explicit roles of a member, or the administrative set of a user; none for a number that no member has.
+pub fn set_at(sets: &[u64; 256], member: u64) -> u64
+    ensures { result ≡ get_or sets.now member 0 }
 {
-    let mut q = p;
-    q.permissions = permissions;
-    q
+    sets.get(member as usize).copied().unwrap_or(0)
 }
 
-// A change that is refused: the order of roles is as it was, and nobody looks at more than the outcome.
-pub fn unchanged(order: Order, outcome: u64) -> Change
-    ensures { result ≡ unchanged order outcome }
+// Gives a member other explicit roles; a number that no member has changes nothing.
+fn put_roles(sets: &mut [u64; 256], member: u64, roles: u64)
+    ensures { sets.new ≡ set sets.old member roles }
 {
-    Change {
-        outcome,
-        number: 0,
-        touched: Touched::Hierarchy,
-        roles: 0,
-        order,
+    if member < 256 {
+        sets[member as usize] = roles;
     }
 }
 
-// A change of the order of roles.
-pub fn reordered(order: Order, number: u64) -> Change
-    ensures { result ≡ reordered order number }
-{
-    Change {
-        outcome: 0,
-        number,
-        touched: Touched::Hierarchy,
-        roles: 0,
-        order,
-    }
-}
-
-// The users after a change that was asked with member a.
-fn users_after(users: Members, a: u64, touched: Touched, roles: u64) -> Members
-    ensures { result ≡ users_after touched users a roles }
-{
-    match touched {
-        Touched::User => put_roles(users, a, roles),
-        Touched::Permission => users,
-        Touched::Hierarchy => users,
-    }
-}
-
-fn permissions_after(permissions: Members, a: u64, touched: Touched, roles: u64) -> Members
-    ensures { result ≡ permissions_after touched permissions a roles }
-{
-    match touched {
-        Touched::User => permissions,
-        Touched::Permission => put_roles(permissions, a, roles),
-        Touched::Hierarchy => permissions,
-    }
-}
-
-// The policy after a change, put together at this one place.
-pub fn changed(p: Policy, a: u64, c: Change) -> Policy
+// The policy after a change that was asked with a user or permission a, put together at this one place.
+pub fn changed(mut p: Policy, a: u64, c: Change) -> Policy
     ensures { result ≡ changed p a c }
 {
-    let mut orders = p.orders;
-    let mut people = p.people;
-    let before = p.permissions;
-    let tables = p.tables;
-    let modify = p.modify;
-    let touched = c.touched;
-    let order = c.order;
-    orders.roles = order;
-    let users = users_after(people.users, a, touched, c.roles);
-    people.users = users;
-    let permissions = permissions_after(before, a, touched, c.roles);
-    Policy {
-        orders,
-        people,
-        permissions,
-        tables,
-        modify,
+    match c {
+        Change::User(roles) => put_roles(&mut p.people.users.roles, a, roles),
+        Change::Permission(roles) => put_roles(&mut p.permissions.roles, a, roles),
+        Change::Hierarchy(order, _) => p.orders.roles = order,
     }
-}
-
-// A refusal leaves the policy unchanged, with number 0.
-pub fn refused(p: Policy, outcome: u64) -> Answer
-    ensures { result ≡ refused p outcome }
-{
-    Answer {
-        outcome,
-        number: 0,
-        policy: p,
-    }
-}
-
-pub fn accepted(p: Policy, number: u64) -> Answer
-    ensures { result ≡ accepted p number }
-{
-    Answer {
-        outcome: 0,
-        number,
-        policy: p,
-    }
-}
-
-// The explicit roles of member a; none for a number that no member has.
-pub fn roles_of(m: Members, a: u64) -> u64
-    ensures { result ≡ get_or m.roles a 0 }
-{
-    if 256 <= a {
-        return 0;
-    }
-    m.roles[a as usize]
-}
-
-// The members with other explicit roles of member a.
-pub fn put_roles(m: Members, a: u64, roles: u64) -> Members
-    ensures { result ≡ put_roles m a roles }
-{
-    let mut next = m;
-    if 256 <= a {
-        return next;
-    }
-    next.roles[a as usize] = roles;
-    next
-}
-
-// The administrative set of user a; none for a number that no user has.
-pub fn office_of(p: People, a: u64) -> u64
-    ensures { result ≡ get_or p.offices a 0 }
-{
-    if 256 <= a {
-        return 0;
-    }
-    p.offices[a as usize]
+    p
 }
 
 // Is some role held equal or senior to some role granted? So it is where held reaches a role that is granted.
-fn exercises(order: Order, held: u64, granted: u64) -> bool
-    ensures { result ≡ may_exercise (senior order.juniors) held granted }
+fn exercises(order: &Order, held: u64, granted: u64) -> bool
+    ensures { result ≡ may_exercise (senior order.now.juniors) held granted }
 {
-    both(reached(order, held), granted) != 0
+    both(order.reached(held), granted) != 0
 }
 
 // The permission question, for any numbers.
-pub fn question(p: Policy, user: u64, permission: u64) -> Reply
-    ensures { result ≡ question p user permission }
+pub fn question(p: &Policy, user: u64, permission: u64) -> Result<bool, Refusal>
+    ensures { result ≡ question p.now user permission }
 {
-    let people = p.people;
-    let users = people.users;
-    let permissions = p.permissions;
-    let orders = p.orders;
-    let roles = orders.roles;
-    if users.count as u64 <= user {
-        return Reply::Unknown;
+    if p.people.users.count as u64 <= user || p.permissions.count as u64 <= permission {
+        return Err(Refusal::UnknownName);
     }
-    if permissions.count as u64 <= permission {
-        return Reply::Unknown;
-    }
-    let held = roles_of(users, user);
-    let granted = roles_of(permissions, permission);
-    if exercises(roles, held, granted) {
-        Reply::Yes
-    } else {
-        Reply::No
-    }
+    let held = set_at(&p.people.users.roles, user);
+    let granted = set_at(&p.permissions.roles, permission);
+    Ok(exercises(&p.orders.roles, held, granted))
 }

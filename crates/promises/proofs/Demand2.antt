@@ -7,7 +7,7 @@ use borrow.Author.Tests.{ne_eqb}
 use lib.Dec.{eqb}
 use lib.ListN.{length, get_or}
 use Rattle.policy.specs.declared.Policy.{Policy}
-use Rattle.policy.specs.declared.Answer.{Answer}
+use Rattle.policy.specs.Outcome.{Answer}
 use Rattle.policy.specs.Outcome.{first}
 use Rattle.requests.specs.declared.Request.{Request}
 use Rattle.members.specs.Rules.{Agree}
@@ -18,7 +18,7 @@ use Rattle.requests.proofs.Decided.{every_request, outcome_given}
 use Rattle.requests.proofs.Table.{given_below}
 use Rattle.number.specs.Number.{part}
 use Rattle.number.proofs.Stores.{sets_after}
-use Rattle.reading.specs.declared.How.TheVariants.{Accepted}
+use Rattle.reading.specs.File.{Accepted}
 use Rattle.reading.specs.File.{read_policy}
 use Rattle.reading.proofs.Theorems.{accepted_good}
 use Rattle.layout.specs.Layout.{policy_bytes}

@@ -16,8 +16,8 @@ use Rattle.safety.specs.Dominance.{Kept, Outside}
 use Rattle.requests.specs.Requests.{ask, decide}
 use Rattle.requests.proofs.Decided.{every_request}
 use Rattle.number.specs.Number.{part}
-use Rattle.reading.specs.declared.How.TheVariants.{Accepted}
-use Rattle.reading.specs.declared.Loaded.{Loaded}
+use Rattle.reading.specs.File.{Accepted}
+use Rattle.reading.specs.File.{Loaded}
 use Rattle.reading.specs.File.{read_policy}
 use Rattle.reading.proofs.Theorems.{accepted_good}
 use Rattle.listing.specs.Listing.{accepts, entry_count, entries_for, EntryIs, InListing, InKinds, Earlier}

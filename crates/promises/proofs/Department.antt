@@ -3,8 +3,8 @@
 use mathlib.Core.Path.{◌≡◌, refl, ap}
 use Prim.Native.Nat.{ℕ}
 use Rattle.requests.specs.Examples.{F, chain}
-use Rattle.reading.specs.declared.How.TheVariants.{Accepted}
-use Rattle.reading.specs.declared.Loaded.{Loaded}
+use Rattle.reading.specs.File.{Accepted}
+use Rattle.reading.specs.File.{Loaded}
 use Rattle.reading.proofs.Opened.{reading_opened}
 use Rattle.layout.proofs.Opened.{writing_opened}
 use Rattle.reading.specs.File.{read_policy}

@@ -8,7 +8,7 @@ use lib.ListN.{get_or}
 use Rattle.policy.specs.declared.Policy.{Policy}
 use Rattle.policy.specs.Good.{Good}
 use Rattle.requests.specs.declared.Request.{Request}
-use Rattle.reading.specs.declared.How.TheVariants.{Accepted, Refused}
+use Rattle.reading.specs.File.{Accepted, Refused}
 use Rattle.reading.specs.File.{read_policy}
 use Rattle.parts.specs.Parts.{is_table}
 use Rattle.layout.specs.Layout.{policy_bytes}

@@ -7,10 +7,10 @@ use native.Mathlib.Omega.{arith}
 use lib.ListN.{length, get_or}
 use Rattle.sets.proofs.Tests.{clash}
 use Rattle.policy.specs.declared.Policy.{Policy}
-use Rattle.policy.specs.Question.{question, reply_outcome, reply_value}
+use Rattle.policy.specs.Question.{question, reply_value}
 use Rattle.number.specs.Number.{part}
 use Rattle.number.proofs.Stores.{sets_after}
-use Rattle.reading.specs.declared.How.TheVariants.{Accepted}
+use Rattle.reading.specs.File.{Accepted}
 use Rattle.reading.specs.File.{read_policy}
 use Rattle.reading.proofs.Theorems.{refused-within}
 use Rattle.parts.specs.Parts.{is_table, part_bytes}
@@ -116,7 +116,7 @@ module _ (s : List ℕ) (ok : (read_policy s).how ≡ Accepted) where
   -- the four numbers are the reply's outcome and value, place 0 and length 0
   pub question-answer : {user permission r : ℕ} → QuestionOf s user permission r
       → apart r ≡ of_reply (question (read_policy s).policy user permission)
-  unfolding reply_outcome reply_value
+  unfolding reply_value
   question-answer {user} {permission} {r} w = by (ends.question_ends s user permission w)
     where
       by : ends.QuestionEnds s user permission r → apart r ≡ of_reply (question (read_policy s).policy user permission)

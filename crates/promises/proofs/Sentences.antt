@@ -18,7 +18,7 @@ use Rattle.order.specs.Effects.{create}
 use Rattle.ranges.specs.Ranges.{inside, in_range, encapsulated, overlap_in_part}
 use Rattle.policy.specs.declared.Policy.{Policy}
 use Rattle.policy.specs.Good.{Good, GoodSets}
-use Rattle.policy.specs.declared.Answer.{Answer}
+use Rattle.policy.specs.Outcome.{Answer}
 use Rattle.policy.specs.Build.{with_roles}
 use Rattle.policy.specs.Outcome.{first, accepted}
 use Rattle.policy.proofs.Outcomes.{accepted_is}

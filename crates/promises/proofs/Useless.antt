@@ -8,15 +8,15 @@ use native.Mathlib.Omega.{arith}
 use lib.ListN.{length, get_or, replicate, length-replicate}
 use lib.Seq.{sets}
 use Rattle.policy.specs.declared.Policy.{Policy}
-use Rattle.policy.specs.declared.Answer.{Answer}
+use Rattle.policy.specs.Outcome.{Answer}
 use Rattle.policy.specs.Build.{with_roles}
 use Rattle.policy.specs.Outcome.{accepted}
 use Rattle.requests.specs.declared.Request.{Request}
 use Rattle.requests.specs.Requests.{ask, decide}
 use Rattle.requests.specs.Examples.{order_of, F}
 use Rattle.requests.proofs.Cases.{rules_opened}
-use Rattle.reading.specs.declared.How.TheVariants.{Accepted}
-use Rattle.reading.specs.declared.Loaded.{Loaded}
+use Rattle.reading.specs.File.{Accepted}
+use Rattle.reading.specs.File.{Loaded}
 use Rattle.reading.specs.File.{read_policy}
 use Rattle.layout.specs.Layout.{policy_bytes}
 use Rattle.layout.proofs.Opened.{writing_opened}

@@ -5,7 +5,7 @@
 use Rattle.std.specs.Prelude.{ℕ, suc, ◌≤◌, ◌<◌, ◌≡◌, List, length}
 use Rattle.std.proofs.lemmas.List.Edits.{sets}
 use Rattle.requests.specs.declared.Request.{Request}
-use Rattle.reading.specs.declared.How.TheVariants.{Accepted}
+use Rattle.reading.specs.File.{Accepted}
 use Rattle.reading.specs.File.{read_policy}
 use Rattle.listing.specs.Listing.{entry_count}
 use Rattle.answers.specs.Answers.{apart}

@@ -1,35 +1,23 @@
--- The check of all rows after a change: what the loops compare, and that number 9 is what they find.
+-- The check of all rows after a change: what the loops compare.
 --   same_at, same_wider     where a role stands to another as before
 --   row_before              what is known of one of the rows
 --   ends_kept, members_kept, clear_of    the three parts of a row that is kept
---   cut_later, cut_found    two ranges that overlap in part, found in their sets
---   after_row, after_stays, after_pair   number 9, by what is found
 -- Assumes nothing.
 use mathlib.Core.Path.{◌≡◌, refl, sym, ap, ◌∙◌}
 use mathlib.Core.Bool.{Bool, true, false}
 use mathlib.Core.List.{List}
-use Prim.Native.Nat.{ℕ, ◌+◌, ◌^◌, ◌≤◌, ◌<◌}
-use native.Mathlib.Nat.{not-suc-le-zero, lt_of_lt_of_le}
-use native.Mathlib.Numerals.{add-one}
-use lib.Dec.{leb, ltb}
-use lib.ListN.{length, get_or, take}
-use lib.Seq.{get_or-take}
-use borrow.Author.Count.{below_more}
-use lib.Seq.{length-take-le}
+use Prim.Native.Nat.{ℕ, ◌^◌, ◌<◌}
+use lib.ListN.{length, get_or}
 use Rattle.sets.specs.Tests.{◌and◌, ◌or◌, neg, ◌iff◌}
-use Rattle.sets.specs.Sets.{has, any, Exactly, agreeing}
-use Rattle.sets.proofs.Tests.{clash, not_so, and_i, or_l, or_given, or_fails_l, or_fails_r, or_assoc, neg_false, implies_e, iff_e}
+use Rattle.sets.specs.Sets.{has, Exactly, agreeing}
+use Rattle.sets.proofs.Tests.{clash, not_so, and_i, or_fails_l, or_fails_r, neg_false, implies_e, iff_e}
 use Rattle.sets.proofs.Digits.{has_empty, has_below}
-use Rattle.sets.proofs.Quantifiers.{all_at, any_same, any_fails, any-or}
+use Rattle.sets.proofs.Quantifiers.{all_at}
 use Rattle.order.specs.Order.{Relation, senior}
 use Rattle.order.specs.Rows.{Above}
 use Rattle.ranges.specs.declared.ModifyRow.{ModifyRow}
-use Rattle.ranges.specs.declared.Look.TheVariants.{Either}
-use Rattle.ranges.specs.Ranges.{overlap_in_part}
-use Rattle.ranges.specs.Rows.{row_at, within, row_fails, overlap, unsound, SoundRows}
-use Rattle.ranges.specs.After.{SoundBefore, SameAt, SameOutside, RowBefore, EndsStay, RangesStay, RangeSets, cut_from, some_cut}
-use Rattle.ranges.proofs.Laws.{overlap_same}
-use Rattle.ranges.proofs.Checks.{pairs_once}
+use Rattle.ranges.specs.Rows.{row_at}
+use Rattle.ranges.specs.After.{SoundBefore, SameAt, SameOutside, RowBefore, EndsStay}
 
 -- ---- the roles in which two sets differ
 pub one_of_two : (a b : Bool) → ((a and neg b) or (b and neg a)) ≡ neg (a iff b)
@@ -49,7 +37,8 @@ module _ (js ss ls us : List ℕ) (before : Above js ss) (after : Above ls us) w
 
   -- d has the roles in which the juniors of r differ, and those in which its seniors do
   pub same_at : (r d below above : ℕ) → Exactly d (λ m. has below m or has above m)
-      → Exactly below (λ m. neg (has (get_or js r 0) m iff has (get_or ls r 0) m)) → Exactly above (λ m. neg (has (get_or ss r 0) m iff has (get_or us r 0) m))
+      → Exactly below (λ m. neg (has (get_or js r 0) m iff has (get_or ls r 0) m))
+      → Exactly above (λ m. neg (has (get_or ss r 0) m iff has (get_or us r 0) m))
       → SameAt (senior js) (senior ls) d r
   unfolding senior
   same_at r d below above e p q =
@@ -70,12 +59,10 @@ module _ (js ss ls us : List ℕ) (before : Above js ss) (after : Above ls us) w
       }
 
 -- what is known of one of the rows
-pub row_before : (rows : List ModifyRow) (count used : ℕ) (js ss ls us : List ℕ) (differs : ℕ) → SoundBefore rows count used js ss ls us
-    → SameOutside used (senior js) (senior ls) differs → (i : ℕ) → i < count → RowBefore used js ss ls us differs (row_at rows i)
-row_before rows count used js ss ls us differs h same i l =
+pub row_before : (rows : List ModifyRow) (used : ℕ) (f g : Relation) (differs : ℕ) → SoundBefore rows used f → SameOutside used f g differs
+    → (i : ℕ) → i < length rows → RowBefore used f g differs (row_at rows i)
+row_before rows used f g differs h same i l =
     record {
-      seniors_before = h.seniors_before;
-      seniors_after = h.seniors_after;
       in_use = h.in_use;
       low_junior = h.sound.low_junior i l;
       capsule = h.sound.capsule i l;
@@ -94,56 +81,3 @@ members_kept used s t p l e q r u = iff_e _ _ (implies_e _ _ (all_at 64 _ e r (h
 
 pub clear_of : (s t shared : ℕ) → Exactly shared (λ m. has s m and has t m) → shared ≡ 0 → (m : ℕ) → has t m ≡ true → has s m ≡ false
 clear_of s t shared e z m o = not_so _ (λ i. clash (and_i _ _ i o) (sym (e m) ∙ ap (λ (x : ℕ). has x m) z ∙ has_empty m))
-
--- ---- the ranges that stay
-pub stay_begin : (f g : Relation) (rows : List ModifyRow) → RangesStay f g 0 rows
-stay_begin f g rows = record { stays = λ i l. absurd (not-suc-le-zero l) }
-
-pub stay_turn : (f g : Relation) (rows : List ModifyRow) (i : ℕ) → RangesStay f g i rows
-    → ((r : ℕ) → within g (row_at rows i) r ≡ within f (row_at rows i) r) → RangesStay f g (i + 1) rows
-stay_turn f g rows i h e = record { stays = below_more (λ n. (r : ℕ) → within g (row_at rows n) r ≡ within f (row_at rows n) r) i h.stays e }
-
-pub stay_end : (f g : Relation) (rows : List ModifyRow) (count i : ℕ) → count ≤ i → RangesStay f g i rows → RangesStay f g count rows
-stay_end f g rows count i l h = record { stays = λ n m. h.stays n (lt_of_lt_of_le m l) }
-
--- ---- two ranges that overlap in part, found in their sets
-pub cut_later : (sets : List ℕ) (i : ℕ)
-    → cut_from sets (i + 1) (get_or sets i 0) ≡ any (length sets) (λ j. ltb i j and overlap_in_part (has (get_or sets i 0)) (has (get_or sets j 0)))
-unfolding cut_from
-cut_later sets i = any_same (length sets) _ _ (λ j l. ap (λ (n : ℕ). leb n j and overlap_in_part (has (get_or sets i 0)) (has (get_or sets j 0))) (add-one i))
-
-module _ (g : Relation) (count : ℕ) (rows : List ModifyRow) where
-  pub cut_found : (sets : List ℕ) → RangeSets g count rows sets → count ≤ length sets
-      → some_cut (take count sets) ≡ any count (λ i. any count (λ j. overlap g (row_at rows i) (row_at rows j)))
-  unfolding some_cut overlap
-  cut_found sets h l =
-      ap (λ (n : ℕ). any n (λ i. any n (λ j. ltb i j and overlap_in_part (has (get_or (take count sets) i 0)) (has (get_or (take count sets) j 0)))))
-      (length-take-le count sets l)
-      ∙ any_same count _ _ (λ i k. any_same count _ _ (λ j m. ap (λ (b : Bool). ltb i j and b) (overlap_same _ _ _ _ (taken i k) (taken j m))))
-      ∙ pairs_once g count rows
-    where
-      taken : (i : ℕ) → i < count → (r : ℕ) → has (get_or (take count sets) i 0) r ≡ within g (row_at rows i) r
-      taken i k r = ap (λ (x : ℕ). has x r) (get_or-take count sets i 0 k) ∙ h.ranges i k r
-
-  -- ---- number 9: some row fails, or two overlap in part
-  module _ (present : ℕ) where
-    two_walks : unsound present g count rows
-        ≡ (any count (λ i. row_fails Either present g (row_at rows i)) or any count (λ i. any count (λ j. overlap g (row_at rows i) (row_at rows j))))
-    unfolding unsound row_fails
-    two_walks =
-        sym (or_assoc _ _ _) ∙ ap (λ (b : Bool). b or any count (λ i. any count (λ j. overlap g (row_at rows i) (row_at rows j)))) (sym (any-or count _ _))
-
-    pub after_row : any count (λ i. row_fails Either present g (row_at rows i)) ≡ true → true ≡ unsound present g count rows
-    after_row t = sym (two_walks ∙ or_l _ _ t)
-
-    pub after_pair : any count (λ i. row_fails Either present g (row_at rows i)) ≡ false
-        → any count (λ i. any count (λ j. overlap g (row_at rows i) (row_at rows j))) ≡ unsound present g count rows
-    after_pair t = sym (two_walks ∙ or_given _ _ t)
-
-    -- where each range stays, no two overlap in part that did not before
-    pub after_stays : any count (λ i. row_fails Either present g (row_at rows i)) ≡ false
-        → (used : ℕ) (f : Relation) → SoundRows used f count rows → RangesStay f g count rows → false ≡ unsound present g count rows
-    unfolding overlap
-    after_stays t used f h stay =
-        sym (any_fails count _ (λ i l. any_fails count _ (λ j m. overlap_same _ _ _ _ (stay.stays i l) (stay.stays j m) ∙ h.apart i j l m)))
-        ∙ after_pair t

@@ -6,21 +6,23 @@ use mathlib.Core.Bool.{Bool, true, false, not}
 use mathlib.Core.List.{List}
 use Prim.Native.Nat.{ℕ, ◌+◌, ◌≤◌, ◌<◌}
 use native.Mathlib.Numerals.{add-one}
+use native.Mathlib.Omega.{arith}
 use lib.Dec.{leb, ltb}
 use lib.ListN.{length, take}
-use lib.Seq.{get_or-take}
-use borrow.Author.Tests.{lt-ltb, le-ltb, lt-leb}
+use lib.Seq.{get_or-take, length-take-le}
+use borrow.Author.Tests.{lt-ltb}
 use Rattle.sets.specs.Tests.{◌and◌, ◌or◌, neg}
-use Rattle.sets.specs.Sets.{has, any, least}
-use Rattle.sets.proofs.Tests.{same_test, not_so, clash, and_i, and_l, and_r, and_fails_l, and_comm, or_l, or_given, or_assoc, neg_e, not_neg}
-use Rattle.sets.proofs.Loops.{None}
-use Rattle.sets.proofs.Quantifiers.{any_of, any_at, any_same, any-or, least_same, least_any}
+use Rattle.sets.specs.Sets.{has, any}
+use Rattle.sets.proofs.Tests.{same_test, not_so, clash, and_i, and_l, and_r, and_comm, or_l, or_given, or_assoc, neg_e, not_neg}
+use Rattle.sets.proofs.Quantifiers.{any_of, any_at, any_same, any_fails, any-or, least_any}
 use Rattle.order.specs.Order.{Relation}
 use Rattle.ranges.specs.declared.ModifyRow.{ModifyRow}
 use Rattle.ranges.specs.declared.Look.{Look}
 use Rattle.ranges.specs.declared.Look.TheVariants.{Low, Open, Either}
 use Rattle.ranges.specs.Ranges.{encapsulated, overlap_in_part}
-use Rattle.ranges.specs.Rows.{no_row, row_at, within, low_not_junior, not_encapsulated, row_fails, overlap, overlap_from, first_overlap, first_failing, unsound}
+use Rattle.ranges.specs.Rows.{no_row, row_at, within, low_not_junior, not_encapsulated, row_fails, overlap, overlap_from}
+use Rattle.ranges.specs.Rows.{first_overlap, first_failing, unsound, SoundRows}
+use Rattle.ranges.specs.After.{RangesStay}
 use Rattle.ranges.proofs.Laws.{overlap_same}
 
 -- overlapping in part is the same either way round, and no range overlaps itself in part
@@ -40,10 +42,6 @@ unfolding overlap_in_part
 overlap_self p =
     not_so _ (λ t. let r = any_at 64 _ (and_l _ _ (and_r _ _ t)) in clash (and_l _ _ r.2) (neg_e _ (and_r _ _ r.2)))
 
--- a loop from a place on: none below it counts
-pub none_from : (g : ℕ → Bool) (from : ℕ) → None (λ j. leb from j and g j) from
-none_from g from = record { below = λ n l. and_fails_l _ _ (lt-leb from n l) }
-
 -- what `overlap_from` finds from the next row on is a later row
 pub later : (f : Relation) (count : ℕ) (rows : List ModifyRow) (i range : ℕ) → ((r : ℕ) → has range r ≡ within f (row_at rows i) r)
     → ltb (overlap_from f count rows (i + 1) (has range)) count ≡ any count (λ j. ltb i j and overlap f (row_at rows i) (row_at rows j))
@@ -51,21 +49,6 @@ unfolding overlap_from overlap
 later f count rows i range e =
     sym (least_any count _)
     ∙ any_same count _ _ (λ j l. ap₂ ◌and◌ (ap (λ (n : ℕ). leb n j) (add-one i)) (overlap_same _ _ _ _ e (λ r. refl)))
-
--- what is first of the rows lent is first of the first n
-module _ (n : ℕ) (rows : List ModifyRow) (count : length (take n rows) ≡ n) where
-  lent : (g : ℕ → ModifyRow → Bool) → least (length (take n rows)) (λ k. g k (row_at (take n rows) k)) ≡ least n (λ k. g k (row_at rows k))
-  lent g = ap (λ (c : ℕ). least c (λ k. g k (row_at (take n rows) k))) count ∙ least_same n _ _ (λ k l. ap (g k) (get_or-take n rows k no_row l))
-
-  pub failing_lent : (look : Look) (used : ℕ) (f : Relation)
-      → first_failing look used f (length (take n rows)) (take n rows) ≡ first_failing look used f n rows
-  unfolding first_failing
-  failing_lent look used f = lent (λ k row. row_fails look used f row)
-
-  pub overlap_lent : (f : Relation) (from : ℕ) (range : ℕ → Bool)
-      → overlap_from f (length (take n rows)) (take n rows) from range ≡ overlap_from f n rows from range
-  unfolding overlap_from
-  overlap_lent f from range = lent (λ k row. leb from k and overlap_in_part range (within f row))
 
 -- of two rows that overlap in part one is the later
 module _ (f : Relation) (count : ℕ) (rows : List ModifyRow) where
@@ -88,21 +71,72 @@ module _ (f : Relation) (count : ℕ) (rows : List ModifyRow) where
   unfolding first_overlap
   overlap_found = sym (least_any count _) ∙ pairs_once
 
-  pub failing_found : (used : ℕ) → ltb (first_failing Either used f count rows) count
-      ≡ (any count (λ i. low_not_junior f (row_at rows i)) or any count (λ i. not_encapsulated used f (row_at rows i)))
-  unfolding first_failing row_fails
-  failing_found used = sym (least_any count _) ∙ any-or count _ _
+  pub failing_found : (look : Look) (used : ℕ) → ltb (first_failing look used f count rows) count ≡ any count (λ i. row_fails look used f (row_at rows i))
+  unfolding first_failing
+  failing_found look used = sym (least_any count _)
 
-  -- number 9 is what the one walk finds, or else what the other finds
-  either : (used : ℕ) → unsound used f count rows ≡ (ltb (first_failing Either used f count rows) count or ltb (first_overlap f count rows) count)
+  -- number 9: some row fails, or else two overlap in part
+  module _ (used : ℕ) where
+    either : unsound used f count rows ≡ (any count (λ i. row_fails Either used f (row_at rows i)) or ltb (first_overlap f count rows) count)
+    unfolding unsound row_fails
+    either = sym (or_assoc _ _ _) ∙ ap₂ ◌or◌ (sym (any-or count _ _)) (sym overlap_found)
+
+    pub unsound_row : any count (λ i. row_fails Either used f (row_at rows i)) ≡ true → true ≡ unsound used f count rows
+    unsound_row t = sym (either ∙ or_l _ _ t)
+
+    pub unsound_pair : any count (λ i. row_fails Either used f (row_at rows i)) ≡ false → ltb (first_overlap f count rows) count ≡ unsound used f count rows
+    unsound_pair t = sym (either ∙ or_given _ _ t)
+
+    -- after a change where each range stays, no two overlap in part that did not before
+    pub unsound_stays : any count (λ i. row_fails Either used f (row_at rows i)) ≡ false
+        → (before : ℕ) (g : Relation) → SoundRows before g count rows → RangesStay g f count rows → false ≡ unsound used f count rows
+    unfolding overlap
+    unsound_stays t before g h stay =
+        sym (overlap_found ∙ any_fails count _ (λ i l. any_fails count _ (λ j m.
+        overlap_same _ _ _ _ (stay.stays i l) (stay.stays j m) ∙ h.apart i j l m)))
+        ∙ unsound_pair t
+
+-- what holds of the first rows, lent, holds of the rows below the count
+module _ (n : ℕ) (rows : List ModifyRow) (fits : n ≤ length rows) where
+  abbrev t : List ModifyRow
+  t = take n rows
+
+  count_lent : length t ≡ n
+  count_lent = length-take-le n rows fits
+
+  any_lent : (g : ModifyRow → Bool) → any (length t) (λ k. g (row_at t k)) ≡ any n (λ k. g (row_at rows k))
+  any_lent g = ap (λ (c : ℕ). any c (λ k. g (row_at t k))) count_lent ∙ any_same n _ _ (λ k l. ap g (get_or-take n rows k no_row l))
+
+  pairs_lent : (g : ModifyRow → ModifyRow → Bool)
+      → any (length t) (λ i. any (length t) (λ j. g (row_at t i) (row_at t j))) ≡ any n (λ i. any n (λ j. g (row_at rows i) (row_at rows j)))
+  pairs_lent g = any_same _ _ _ (λ i l. any_lent (g (row_at t i))) ∙ any_lent (λ row. any n (λ j. g row (row_at rows j)))
+
+  pub failing_lent : (look : Look) (used : ℕ) (f : Relation)
+      → ltb (first_failing look used f (length t) t) (length t) ≡ any n (λ i. row_fails look used f (row_at rows i))
+  failing_lent look used f = failing_found f (length t) t look used ∙ any_lent (row_fails look used f)
+
+  pub overlap_lent : (f : Relation)
+      → ltb (first_overlap f (length t) t) (length t) ≡ any n (λ i. any n (λ j. overlap f (row_at rows i) (row_at rows j)))
+  overlap_lent f = overlap_found f (length t) t ∙ pairs_lent (overlap f)
+
+  pub unsound_lent : (used : ℕ) (f : Relation) → unsound used f (length t) t ≡ unsound used f n rows
   unfolding unsound
-  either used = sym (or_assoc _ _ _) ∙ ap₂ ◌or◌ (sym (failing_found used)) (sym overlap_found)
+  unsound_lent used f =
+      ap₂ ◌or◌ (any_lent (low_not_junior f)) (ap₂ ◌or◌ (any_lent (not_encapsulated used f)) (pairs_lent (overlap f)))
 
-  pub unsound_row : (used : ℕ) → first_failing Either used f count rows < count → true ≡ unsound used f count rows
-  unsound_row used l = sym (either used ∙ or_l _ _ (lt-ltb _ _ l))
+  pub sound_lent : (used : ℕ) (f : Relation) → SoundRows used f n rows → SoundRows used f (length t) t
+  sound_lent used f h =
+      record {
+        low_junior = λ i l. rw (same i l) (h.low_junior i (below i l));
+        capsule = λ i l. rw (same i l) (h.capsule i (below i l));
+        apart = λ i j l m. rw (same i l, same j m) (h.apart i j (below i l) (below j m));
+      }
+    where
+      below : (i : ℕ) → i < length t → i < n
+      below i l = omega (arith, count_lent)
 
-  pub unsound_pair : (used : ℕ) → count ≤ first_failing Either used f count rows → ltb (first_overlap f count rows) count ≡ unsound used f count rows
-  unsound_pair used l = sym (either used ∙ or_given _ _ (le-ltb _ _ l))
+      same : (i : ℕ) → i < length t → row_at t i ≡ row_at rows i
+      same i l = get_or-take n rows i no_row (below i l)
 
 -- ---- a row's two tests, as the code makes them: j is whether low is junior to high, k whether the range is encapsulated
 module _ (f : Relation) (row : ModifyRow) where

@@ -1,22 +1,21 @@
 -- Ranges: what the one routine says of a strict range, and encapsulation by whole sets.
 -- Assumes nothing.
-use mathlib.Core.Path.{◌≡◌, refl, sym, ap, ap₂, ◌∙◌}
-use mathlib.Core.Bool.{Bool, true, false}
+use mathlib.Core.Path.{◌≡◌, sym, ap, ap₂, ◌∙◌}
+use mathlib.Core.Bool.{Bool, true, false, not}
 use mathlib.Core.List.{List}
-use Prim.Native.Nat.{ℕ, ◌^◌, ◌≤◌, ◌<◌}
+use Prim.Native.Nat.{ℕ, ◌^◌, ◌<◌}
 use lib.Dec.{eqb}
-use borrow.Author.Tests.{lt-ltb, le-ltb}
 use lib.ListN.{get_or}
 use Rattle.sets.specs.Tests.{◌and◌, ◌or◌, neg, ◌implies◌, ◌iff◌}
-use Rattle.sets.specs.Sets.{has, all, lowest, Exactly, agreeing}
-use Rattle.sets.proofs.Tests.{and_fails_l, and_fails_r, and_given, or_given, implies_i, implies_given, implies-and, eqb_sym}
+use Rattle.sets.specs.Sets.{has, all, any, lowest, Exactly, agreeing}
+use Rattle.sets.proofs.Tests.{not_neg, neg-neg, and_fails_l, and_fails_r, and_given, or_given, implies_i, implies_given, implies-and, eqb_sym}
 use Rattle.sets.proofs.Digits.{has_empty}
+use Rattle.sets.proofs.Builders.{empty_test}
 use Rattle.sets.proofs.Members.{Remaining, left_end, lowest_below, lowest_in}
 use Rattle.sets.proofs.Quantifiers.{all_of, all_fails, all_same, all-and, any_same}
 use Rattle.order.specs.Order.{Relation, senior, at_least}
 use Rattle.order.specs.Rows.{Above}
 use Rattle.ranges.specs.Ranges.{inside, in_range, encapsulated, parted, parted_by_ends, overlap_in_part}
-use Rattle.ranges.specs.Rows.{up_to}
 
 -- with brackets 0 neither end is included
 pub inside_is : (f : Relation) (low high r : ℕ) → in_range f low high 0 r ≡ inside f low high r
@@ -101,11 +100,6 @@ module _ (f : Relation) (low high brackets r : ℕ) (a b : Bool) (e : a ≡ ((eq
   rest_of_range y z d q j =
       q ∙ ap₂ (λ (s t : Bool). (s and t) or f high r) (eqb_sym high r) j ∙ sym (and_given _ _ (sym low_of ∙ y))
 
--- a place of a row is itself, and past the rows it is their count
-pub up_to_place : (count place : ℕ) → place < count → up_to count place ≡ place
-unfolding up_to
-up_to_place count place l = rw (lt-ltb place count l) refl
-
-pub up_to-count : (count place : ℕ) → count ≤ place → up_to count place ≡ count
-unfolding up_to
-up_to-count count place l = rw (le-ltb place count l) refl
+-- the code's test that a set has a member
+pub some_test : (s : ℕ) (f : ℕ → Bool) → s < 2 ^ 64 → Exactly s f → not (eqb s 0) ≡ any 64 f
+some_test s f l e = ap not (empty_test 64 s f l e) ∙ not_neg _ ∙ neg-neg _

@@ -6,7 +6,8 @@ use mathlib.Core.List.{List}
 use Prim.Native.Nat.{ℕ, ◌<◌, ◌^◌}
 use Rattle.sets.specs.Tests.{◌and◌, ◌iff◌}
 use Rattle.sets.specs.Sets.{has}
-use Rattle.sets.proofs.Tests.{and_i, and_l, and_r, or_fails, or_fails_l, or_fails_r, neg_i, neg_e, neg_false, neg_fails, implies_i, implies_e, iff_i, iff_e}
+use Rattle.sets.proofs.Tests.{and_i, and_l, and_r, or_fails, or_fails_l, or_fails_r}
+use Rattle.sets.proofs.Tests.{neg_i, neg_e, neg_false, neg_fails, implies_i, implies_e, iff_i, iff_e}
 use Rattle.sets.proofs.Digits.{has_below}
 use Rattle.sets.proofs.Quantifiers.{all_of, all_at, any_fails, any_none}
 use Rattle.order.specs.Order.{Relation, at_least, InUse}
@@ -19,11 +20,13 @@ module _ (used : ℕ) (f : Relation) (width : used < 2 ^ 64) (in_use : InUse use
   unfolding inside
   inside_below low high r e = has_below 64 used r width (in_use.above r low (and_l _ _ e))
 
-  sides : (low high : ℕ) → encapsulated used f low high ≡ true → (r s : ℕ) → inside f low high r ≡ true → has used s ≡ true → inside f low high s ≡ false
+  sides : (low high : ℕ) → encapsulated used f low high ≡ true → (r s : ℕ)
+      → inside f low high r ≡ true → has used s ≡ true → inside f low high s ≡ false
       → ((f s r iff at_least f s high) and (f r s iff at_least f low s)) ≡ true
   unfolding encapsulated
   sides low high e r s i m o =
-      implies_e _ _ (all_at 64 _ (implies_e _ _ (all_at 64 _ e r (inside_below low high r i)) i) s (has_below 64 used s width m)) (and_i _ _ m (neg_i _ o))
+      implies_e _ _ (all_at 64 _ (implies_e _ _ (all_at 64 _ e r (inside_below low high r i)) i)
+      s (has_below 64 used s width m)) (and_i _ _ m (neg_i _ o))
 
   pub encapsulated_means : (low high : ℕ) → encapsulated used f low high ≡ true → Encapsulated used f low high
   encapsulated_means low high e =
@@ -46,7 +49,8 @@ pub means_encapsulated : (used : ℕ) (f : Relation) (low high : ℕ) → Encaps
 unfolding encapsulated
 means_encapsulated used f low high h =
     all_of 64 _ (λ r l. implies_i _ _ (λ i. all_of 64 _ (λ s m. implies_i _ _ (λ o.
-    and_i _ _ (iff_i _ _ (h.seniors r s i (and_l _ _ o) (neg_e _ (and_r _ _ o)))) (iff_i _ _ (h.juniors r s i (and_l _ _ o) (neg_e _ (and_r _ _ o))))))))
+    and_i _ _ (iff_i _ _ (h.seniors r s i (and_l _ _ o) (neg_e _ (and_r _ _ o))))
+    (iff_i _ _ (h.juniors r s i (and_l _ _ o) (neg_e _ (and_r _ _ o))))))))
 
 pub means_sound : (used : ℕ) (f : Relation) (count : ℕ) (rows : List ModifyRow) → SoundRows used f count rows → unsound used f count rows ≡ false
 unfolding unsound low_not_junior not_encapsulated

@@ -1,3 +1,4 @@
 pub mod Ranges
 pub mod Rows
 pub mod After
+pub mod Ranking

@@ -1,6 +1,6 @@
 -- The can-modify rows: which row fails, and which two overlap in part.
 use Rattle.std.specs.Prelude.{◌≡◌, Bool, true, false, List, ℕ, ◌<◌, leb, ltb, get_or}
-use Rattle.sets.specs.Tests.{◌and◌, ◌or◌, neg, pick}
+use Rattle.sets.specs.Tests.{◌and◌, ◌or◌, neg}
 use Rattle.sets.specs.Sets.{any, least}
 use Rattle.order.specs.Order.{Relation}
 use Rattle.ranges.specs.declared.ModifyRow.{ModifyRow}
@@ -39,10 +39,6 @@ row_fails Either used f row = low_not_junior f row or not_encapsulated used f ro
 -- the first of the rows that fails, and their count where none does
 unfoldable pub first_failing : Look → ℕ → Relation → ℕ → List ModifyRow → ℕ
 first_failing look used f count rows = least count (λ i. row_fails look used f (row_at rows i))
-
--- a place of a row, and the rows' count where no row stands there
-unfoldable pub up_to : ℕ → ℕ → ℕ
-up_to count place = pick (ltb place count) place count
 
 -- two rows whose ranges overlap in part: number 26
 unfoldable pub overlap : Relation → ModifyRow → ModifyRow → Bool

@@ -1,15 +1,18 @@
 // The reader stands on the caller's bytes and keeps its own place in them.
 #![tactic(auto)]
 
-ghost use Rattle.std.specs.Prelude.{◌≡◌};
-ghost use Rattle.number.specs.Number.{num_at};
-ghost use Rattle.sections.specs.Sections.{order_at, order_read, people_at, people_read, members_at, members_read};
-ghost use Rattle.rows.specs.Rows.{table_at, table_read, ranges_at, ranges_read};
-ghost use Rattle.reader.specs.Standing.{standing, past_by};
+ghost use Rattle.std.specs.Prelude.{◌≡◌, Bool, ℕ, ◌<◌, ◌^◌};
+ghost use Rattle.number.specs.Number.{num_at, tested, as_num};
+ghost use Rattle.number.specs.Run.{as_step};
+ghost use Rattle.sections.specs.Sections.{order_at, people_at, members_at};
+ghost use Rattle.rows.specs.Rows.{table_at, ranges_at};
+ghost use Rattle.reader.specs.Standing.{standing, up_to, StaysOn};
 
-use number::{Num, read_number};
-use rows::{RangesRead, TableRead, read_ranges, read_table};
-use sections::{Ended, MembersRead, OrderRead, PeopleRead, read_members, read_order, read_people};
+use number::NumberError;
+use order::Order;
+use policy::{Members, People, Ranges, Table};
+use rows::{read_ranges, read_table};
+use sections::{read_fitting, read_members, read_order, read_people};
 
 // The file's bytes, the caller's own, and the place of the next number.
 #[derive(Clone, Copy)]
@@ -18,64 +21,77 @@ pub struct Reader<'a> {
     pub at: usize,
 }
 
-// A reader before the first byte.
-pub fn start<'a>(bytes: &'a [u8]) -> Reader<'a>
-    ensures { result ≡ standing bytes.entry 0 }
-{
-    Reader { bytes, at: 0 }
-}
-
-// What stands where the reader stands: each takes it apart and leaves loops and branches to a function of the bytes and the place.
-pub fn next_number<'a>(r: Reader<'a>) -> Num
-    ensures { result ≡ num_at r.entry.bytes.now r.entry.at }
-{
-    read_number(r.bytes, r.at)
-}
-
-pub fn next_order<'a>(r: Reader<'a>, all: u64) -> OrderRead
-    ensures { result ≡ order_read (order_at r.entry.bytes.now all r.entry.at) }
-{
-    read_order(r.bytes, r.at, all)
-}
-
-pub fn next_people<'a>(r: Reader<'a>, roles: u64, admins: u64) -> PeopleRead
-    ensures { result ≡ people_read (people_at r.entry.bytes.now roles admins r.entry.at) }
-{
-    read_people(r.bytes, r.at, roles, admins)
-}
-
-pub fn next_members<'a>(r: Reader<'a>, roles: u64) -> MembersRead
-    ensures { result ≡ members_read (members_at r.entry.bytes.now roles r.entry.at) }
-{
-    read_members(r.bytes, r.at, roles)
-}
-
-pub fn next_table<'a>(r: Reader<'a>, roles: u64, admins: u64, assign: bool) -> TableRead
-    ensures { result ≡ table_read (table_at r.entry.bytes.now assign roles admins r.entry.at) }
-{
-    read_table(r.bytes, r.at, roles, admins, assign)
-}
-
-pub fn next_ranges<'a>(r: Reader<'a>, roles: u64, admins: u64) -> RangesRead
-    ensures { result ≡ ranges_read (ranges_at r.entry.bytes.now roles admins r.entry.at) }
-{
-    read_ranges(r.bytes, r.at, roles, admins)
-}
-
-// The place past a section that ended so: where it is refused there is nothing more to read, and the place is the end.
-fn place_past(s: &[u8], how: Ended) -> usize
-    ensures { result ≡ past_by s.now how }
-{
-    match how {
-        Ended::At(e) => e,
-        Ended::Stopped(_, _) => s.len(),
+// Each method but the first two reads what stands where the reader stands, and gives it with the reader past it.
+impl<'a> Reader<'a> {
+    // A reader before the first byte.
+    pub fn new(bytes: &'a [u8]) -> Reader<'a>
+        ensures { result ≡ standing bytes.entry 0 }
+    {
+        Reader { bytes, at: 0 }
     }
-}
 
-// The reader past what it has read.
-pub fn past<'a>(r: Reader<'a>, how: Ended) -> Reader<'a>
-    ensures { result ≡ standing r.entry.bytes (past_by r.entry.bytes.now how) }
-{
-    let at = place_past(r.bytes, how);
-    Reader { bytes: r.bytes, at }
+    // The same bytes, from another place on.
+    fn past(self, at: usize) -> Reader<'a>
+        ensures { result ≡ standing self.entry.bytes at }
+    {
+        Reader {
+            bytes: self.bytes,
+            at,
+        }
+    }
+
+    // A number that passes a test.
+    pub fn number<F: FnOnce(u64) -> bool>(self, fits: F) -> Result<(u64, Reader<'a>), NumberError>
+        requires { F.IsAlwaysCallable fits }
+        ensures read { (test : ℕ → Bool) → ((x : ℕ) (b : Bool) → x < 2 ^ 64 → F.post fits x b → b ≡ test x) → as_num (up_to result) ≡ tested test self.entry.at (num_at self.entry.bytes.now self.entry.at) }
+        ensures stays { StaysOn self.entry.bytes result }
+    {
+        let (number, at) = read_fitting(self.bytes, self.at, fits)?;
+        Ok((number, self.past(at)))
+    }
+
+    pub fn order(self, all: u64) -> Result<(Order, Reader<'a>), NumberError>
+        ensures read { as_step (up_to result) ≡ order_at self.entry.bytes.now all self.entry.at }
+        ensures stays { StaysOn self.entry.bytes result }
+    {
+        let (order, at) = read_order(self.bytes, self.at, all)?;
+        Ok((order, self.past(at)))
+    }
+
+    pub fn people(self, roles: u64, admins: u64) -> Result<(People, Reader<'a>), NumberError>
+        ensures read { as_step (up_to result) ≡ people_at self.entry.bytes.now roles admins self.entry.at }
+        ensures stays { StaysOn self.entry.bytes result }
+    {
+        let (people, at) = read_people(self.bytes, self.at, roles, admins)?;
+        Ok((people, self.past(at)))
+    }
+
+    pub fn members(self, roles: u64) -> Result<(Members, Reader<'a>), NumberError>
+        ensures read { as_step (up_to result) ≡ members_at self.entry.bytes.now roles self.entry.at }
+        ensures stays { StaysOn self.entry.bytes result }
+    {
+        let (members, at) = read_members(self.bytes, self.at, roles)?;
+        Ok((members, self.past(at)))
+    }
+
+    pub fn table(
+        self,
+        roles: u64,
+        admins: u64,
+        assign: bool,
+    ) -> Result<(Table, Reader<'a>), NumberError>
+        ensures read { as_step (up_to result) ≡ table_at self.entry.bytes.now assign roles admins self.entry.at }
+        ensures stays { StaysOn self.entry.bytes result }
+    {
+        let (table, at) = read_table(self.bytes, self.at, roles, admins, assign)?;
+        Ok((table, self.past(at)))
+    }
+
+    pub fn ranges(self, roles: u64, admins: u64) -> Result<(Ranges, Reader<'a>), NumberError>
+        ensures read { as_step (up_to result) ≡ ranges_at self.entry.bytes.now roles admins self.entry.at }
+        ensures stays { StaysOn self.entry.bytes result }
+    {
+        let (ranges, at) = read_ranges(self.bytes, self.at, roles, admins)?;
+        Ok((ranges, self.past(at)))
+    }
 }

@@ -16,7 +16,7 @@ use Rattle.sections.proofs.Bounds.{tested-within, order_within, people-within, m
 use Rattle.rows.proofs.Bounds.{table-within, ranges-within, table_some, ranges_some}
 use Rattle.faults.specs.Faults.{fault}
 use Rattle.faults.proofs.Means.{fault_number}
-use Rattle.reading.specs.declared.Front.{Front}
+use Rattle.reading.specs.File.{Front}
 use Rattle.reading.specs.declared.Places.{Places}
 use Rattle.reading.specs.File.{one_at, front_at, Rest, rest_at, file, judge, file_at}
 use Rattle.reading.proofs.Right.{FrontSteps, RestSteps}

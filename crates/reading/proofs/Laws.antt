@@ -2,15 +2,19 @@
 -- Assumes nothing.
 use Prim.Native.Nat.{ℕ}
 use mathlib.Core.Path.{◌≡◌, refl}
-use native.Mathlib.Omega.{arith}
+use mathlib.Core.Bool.{false}
+use lib.Dec.{eqb}
 use Rattle.sets.specs.Sets.{set_of}
 use Rattle.number.specs.Run.{Step, go, stop}
 use Rattle.sections.specs.Sections.{all_below}
-use Rattle.reading.specs.declared.How.TheVariants.{Accepted, Refused}
-use Rattle.reading.specs.declared.FileRead.{FileRead}
-use Rattle.reading.specs.declared.Loaded.{Loaded}
-use Rattle.reading.specs.File.{File, loaded}
-use Rattle.reading.specs.Joined.{FileGiven, nothing_read}
+use Rattle.faults.specs.declared.Fault.{Fault}
+use Rattle.faults.specs.declared.Fault.TheVariants.{NotStrict, LowNotJunior, NotEncapsulated, Overlap}
+use Rattle.faults.specs.Faults.{number}
+use Rattle.reading.specs.File.{Accepted, Refused}
+use Rattle.reading.specs.File.{Loaded}
+use Rattle.reading.specs.declared.File.{File}
+use Rattle.reading.specs.File.{loaded}
+use Rattle.policy.specs.Build.{empty_policy}
 
 -- ---- the numbers there are, as the code has them
 pub all_roles : all_below 64 ≡ 0xFFFFFFFFFFFFFFFF
@@ -21,22 +25,16 @@ pub all_admins : all_below 16 ≡ 0xFFFF
 unfolding all_below set_of
 all_admins = refl
 
--- ---- what is answered of a file, back to the step that it answers
-pub file_got : (w : Step File) (r : FileRead) → FileGiven w r → r.how ≡ Accepted
-    → (e : ℕ) × (w ≡ go e (record { policy = r.policy; places = r.places }))
-unfolding FileGiven
-file_got (go e f) r q h = (e, rw (q.1, q.2))
-file_got (stop c p) r q h = absurd (let z : ◌≡◌ {A = ℕ} 0 1 = cc in omega arith)
-
-pub file_lost : (w : Step File) (r : FileRead) {c p : ℕ} → FileGiven w r → r.how ≡ Refused c p → w ≡ stop c p
-unfolding FileGiven
-file_lost (go e f) r q h = absurd (let x = q.0 in let z : ◌≡◌ {A = ℕ} 0 1 = cc in omega arith)
-file_lost (stop c p) r q h = cc
-
 -- ---- the policy alone
-module _ (w : Step File) (r : FileRead) (q : FileGiven w r) where
-  pub loaded_go : r.how ≡ Accepted → ◌≡◌ {A = Loaded} (record { how = r.how; policy = r.policy }) (loaded w)
-  loaded_go h = rw ((file_got w r q h).1, h)
+pub loaded_go : (w : Step File) {x : File} {e : ℕ} → w ≡ go e x → loaded w ≡ record { how = Accepted; policy = x.policy }
+loaded_go w q = rw q
 
-  pub loaded_stop : {c p : ℕ} → r.how ≡ Refused c p → nothing_read r.how ≡ loaded w
-  loaded_stop h = rw (file_lost w r q h, h)
+pub loaded_stop : (w : Step File) {c p : ℕ} → w ≡ stop c p → loaded w ≡ record { how = Refused c p; policy = empty_policy }
+loaded_stop w q = rw q
+
+-- ---- a fault's number is not 0
+pub a_fault : (f : Fault) → eqb (number f) 0 ≡ false
+a_fault NotStrict = refl
+a_fault LowNotJunior = refl
+a_fault NotEncapsulated = refl
+a_fault Overlap = refl

@@ -15,15 +15,16 @@ use Rattle.policy.specs.declared.People.{People}
 use Rattle.policy.specs.declared.Table.{Table}
 use Rattle.policy.specs.declared.Ranges.{Ranges}
 use Rattle.number.specs.Run.{go, stop}
-use Rattle.number.specs.declared.Num.TheVariants.{Value}
+use Rattle.number.specs.Number.{Value}
 use Rattle.number.proofs.Runs.{on_num_lem, on_step_lem}
 use Rattle.sections.specs.Sections.{all_below, order_at, people_at, members_at}
 use Rattle.sections.proofs.Right.{OrderRight, order_right, PeopleRight, people_right, MembersRight, members_right}
 use Rattle.rows.specs.Rows.{table_at, ranges_at}
 use Rattle.rows.proofs.Right.{TableRight, table_right, RangesRight, ranges_right}
 use Rattle.faults.specs.Faults.{fault}
-use Rattle.reading.specs.declared.Front.{Front}
-use Rattle.reading.specs.File.{one_at, front, front_at, Rest, rest, places, rest_at, File, file, judge, file_at}
+use Rattle.reading.specs.File.{Front}
+use Rattle.reading.specs.declared.File.{File}
+use Rattle.reading.specs.File.{one_at, front, front_at, Rest, rest, places, rest_at, file, judge, file_at}
 
 -- ---- before the tables
 

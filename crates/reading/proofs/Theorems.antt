@@ -11,8 +11,9 @@ use Rattle.policy.specs.Good.{Good}
 use Rattle.number.specs.Run.{Step, go, stop}
 use Rattle.sections.proofs.Bounds.{RefusedWithin}
 use Rattle.faults.proofs.Means.{no_fault, strict_means, sound_rows}
-use Rattle.reading.specs.declared.How.TheVariants.{Accepted, Refused}
-use Rattle.reading.specs.File.{File, file_at, loaded, read_policy}
+use Rattle.reading.specs.File.{Accepted, Refused}
+use Rattle.reading.specs.declared.File.{File}
+use Rattle.reading.specs.File.{file_at, loaded, read_policy}
 use Rattle.reading.proofs.Right.{front_right, rest_right, file_whole}
 use Rattle.reading.proofs.Bounds.{front_end, Placed, rest_placed, file_within}
 

@@ -7,14 +7,14 @@ use mathlib.Core.Bool.{Bool, true, false}
 use Prim.Native.Nat.{ℕ, ◌≤◌}
 use native.Mathlib.Omega.{arith}
 use lib.Dec.{eqb}
+use Rattle.std.specs.Prelude.{Option, Some, None}
 use Rattle.sets.specs.Tests.{◌and◌, ◌or◌, pick}
 use Rattle.sets.specs.Sets.{has, lowest_free}
 use Rattle.sets.proofs.Quantifiers.{least_le}
 use Rattle.sets.proofs.Tests.{and_l, and_r, or_cases}
 use Rattle.policy.specs.declared.Policy.{Policy}
-use Rattle.policy.specs.declared.Answer.{Answer}
 use Rattle.policy.specs.Good.{Good}
-use Rattle.policy.specs.Outcome.{Refusals, accept, refuse, first, refused, accepted, answer}
+use Rattle.policy.specs.Outcome.{Answer, Refusals, accept, refuse, first, refused, accepted, answer}
 use Rattle.policy.proofs.Outcomes.{answer_outcome}
 use Rattle.policy.proofs.FirstLaws.{answer-unchanged}
 use Rattle.members.specs.Rules.{assign_user, revoke_user, assign_permission, revoke_permission, assign_rules, revoke_rules}
@@ -23,8 +23,10 @@ use Rattle.hierarchy.specs.declared.Site.{Site}
 use Rattle.hierarchy.specs.Rules.{site, new_role, create_role, delete_role, insert_edge, delete_edge, create_rules, delete_rules, insert_rules, cut_rules}
 use Rattle.safety.proofs.Goodness.{create_good, delete_good, insert_good, cut_good}
 use Rattle.requests.specs.declared.Request.{Request}
-use Rattle.requests.specs.Kinds.{Kind, none, assigns_user, revokes_user, assigns_permission, revokes_permission}
-use Rattle.requests.specs.Kinds.{creates_role, deletes_role, inserts_edge, deletes_edge, kind_of}
+use Rattle.requests.specs.declared.Kind.{Kind}
+use Rattle.requests.specs.declared.Kind.TheVariants.{AssignUser, RevokeUser, AssignPermission, RevokePermission}
+use Rattle.requests.specs.declared.Kind.TheVariants.{CreateRole, DeleteRole, InsertEdge, DeleteEdge}
+use Rattle.requests.specs.Kinds.{kind_of}
 use Rattle.requests.specs.Requests.{answer_to, refusals_of, decide, rules_of}
 use Rattle.requests.specs.Numbers.{may_give, NUMBERS, table_row}
 use Rattle.requests.specs.Reached.{Reached, here, next}
@@ -70,16 +72,16 @@ pub every_request : (p : Policy) (q : Request) → Decided p (rules_of p q) (dec
 unfolding decide rules_of assign_user revoke_user assign_permission revoke_permission create_role delete_role insert_edge delete_edge
 every_request p q = by (kind_of q.kind) q.officer q.a q.b
   where
-    by : (k : Kind) (o a b : ℕ) → Decided p (refusals_of k p o a b) (answer_to k p o a b)
-    by assigns_user o a b = decided p _ _ _ (omega arith) (members.assign_user_lem p o a b).good
-    by revokes_user o a b = decided p _ _ _ (omega arith) (members.revoke_user_lem p o a b).good
-    by assigns_permission o a b = decided p _ _ _ (omega arith) (members.assign_permission_lem p o a b).good
-    by revokes_permission o a b = decided p _ _ _ (omega arith) (members.revoke_permission_lem p o a b).good
-    by creates_role o a b = decided p _ _ _ (new_role_lem (site p o)) (λ g. create_good p o g a b)
-    by deletes_role o a b = decided p _ _ _ (omega arith) (λ g. delete_good p o g a b)
-    by inserts_edge o a b = decided p _ _ _ (omega arith) (λ g. insert_good p o g a b)
-    by deletes_edge o a b = decided p _ _ _ (omega arith) (λ g. cut_good p o g a b)
-    by none o a b = unknown_kind p
+    by : (k : Option Kind) (o a b : ℕ) → Decided p (refusals_of k p o a b) (answer_to k p o a b)
+    by (Some AssignUser) o a b = decided p _ _ _ (omega arith) (members.assign_user_lem p o a b).good
+    by (Some RevokeUser) o a b = decided p _ _ _ (omega arith) (members.revoke_user_lem p o a b).good
+    by (Some AssignPermission) o a b = decided p _ _ _ (omega arith) (members.assign_permission_lem p o a b).good
+    by (Some RevokePermission) o a b = decided p _ _ _ (omega arith) (members.revoke_permission_lem p o a b).good
+    by (Some CreateRole) o a b = decided p _ _ _ (new_role_lem (site p o)) (λ g. create_good p o g a b)
+    by (Some DeleteRole) o a b = decided p _ _ _ (omega arith) (λ g. delete_good p o g a b)
+    by (Some InsertEdge) o a b = decided p _ _ _ (omega arith) (λ g. insert_good p o g a b)
+    by (Some DeleteEdge) o a b = decided p _ _ _ (omega arith) (λ g. cut_good p o g a b)
+    by None o a b = unknown_kind p
 
 -- ---- the constant table: "one rule proved over all entries and used for every request"
 

@@ -5,10 +5,9 @@ use mathlib.Core.Path.{◌≡◌, sym, ap, ◌∙◌, subst}
 use Prim.Native.Nat.{ℕ}
 use Rattle.order.specs.declared.Order.{Order}
 use Rattle.policy.specs.declared.Policy.{Policy}
-use Rattle.policy.specs.declared.Answer.{Answer}
 use Rattle.policy.specs.Build.{with_roles}
 use Rattle.policy.specs.Good.{Good}
-use Rattle.policy.specs.Outcome.{first, answer}
+use Rattle.policy.specs.Outcome.{Answer, first, answer}
 use Rattle.policy.proofs.Outcomes.{accepted_is}
 use Rattle.hierarchy.specs.Rules.{site, create_role, delete_role, insert_edge, delete_edge}
 use Rattle.hierarchy.proofs.Accepted.{delete_ok}

@@ -1,20 +1,21 @@
--- The code's constant table: it says what `may_give` says, by one test computed over all its rows; and how the code looks a row up.
+-- The code's constant table: it says what `may_give` says, by one test computed over all its rows.
 -- Assumes nothing.
 use mathlib.Core.Path.{◌≡◌, refl, sym, ap, ◌∙◌}
 use mathlib.Core.Logic.{⊎_elim}
 use mathlib.Core.Bool.{Bool, true, false}
 use mathlib.Core.List.{List, [], ◌∷◌}
-use Prim.Native.Nat.{ℕ, zero, suc, ◌≤◌, ◌<◌}
+use Prim.Native.Nat.{ℕ, ◌≤◌, ◌<◌}
 use native.Mathlib.Omega.{arith}
 use lib.Dec.{eqb, ltb}
-use lib.ListN.{length, get_or, get_or-eq_default}
 use borrow.Author.Tests.{eqb-true, ne_eqb, ltb-true}
+use Rattle.std.specs.Prelude.{Option}
 use Rattle.sets.specs.Tests.{◌and◌, ◌or◌}
 use Rattle.sets.specs.Sets.{has, set_of}
 use Rattle.sets.proofs.Tests.{clash, and_l, and_r, or_fails}
 use Rattle.sets.proofs.Digits.{has_beyond, lt_or_le}
 use Rattle.sets.proofs.Builders.{set_of_lt, has-set_of}
-use Rattle.requests.specs.Kinds.{Kind, kind_of}
+use Rattle.requests.specs.declared.Kind.{Kind}
+use Rattle.requests.specs.Kinds.{kind_of}
 use Rattle.requests.specs.Numbers.{among, numbers, may_give, NUMBERS, table_row}
 use Rattle.requests.proofs.ByKind.{every, each_kind}
 
@@ -29,7 +30,7 @@ among_below n [] h e = refl
 among_below n (m ∷ l) h e = or_fails _ _ (ne_eqb n m (omega (arith, ltb-true m 10 (and_l _ _ e)))) (among_below n l h (and_r _ _ e))
 
 -- a row is right: it is the set of the kind's numbers, and each of these is below 10
-right : Kind → ℕ → Bool
+right : Option Kind → ℕ → Bool
 right c row = eqb row (set_of 10 (λ n. among n (numbers c))) and below (numbers c)
 
 row_right : (k : ℕ) → right (kind_of k) (table_row k) ≡ true
@@ -52,18 +53,3 @@ row_is k n =
 pub given_below : (k n : ℕ) → may_give k n ≡ true → n < 10
 unfolding may_give
 given_below k n e = ⊎_elim (λ l. l) (λ l. clash e (among_below n _ l (row_below k))) (lt_or_le n 10)
-
--- ---- as the code looks a row up: by its number where that is below 9, else the first
-
-any_default : (l : List ℕ) (k d e : ℕ) → k < length l → get_or l k d ≡ get_or l k e
-any_default [] k d e h = absurd (omega arith)
-any_default (x ∷ l) zero d e h = refl
-any_default (x ∷ l) (suc k) d e h = any_default l k d e (omega arith)
-
-pub row_at : (k : ℕ) → k < 9 → get_or NUMBERS k 0 ≡ table_row k
-unfolding table_row NUMBERS
-row_at k l = any_default NUMBERS k 0 2 l
-
-pub first_row : (k : ℕ) → 9 ≤ k → get_or NUMBERS 0 0 ≡ table_row k
-unfolding table_row NUMBERS
-first_row k l = sym (get_or-eq_default NUMBERS 2 l)

@@ -7,7 +7,7 @@ use Rattle.policy.specs.declared.Policy.{Policy}
 use Rattle.policy.specs.declared.Members.{Members}
 use Rattle.policy.specs.declared.Row.{Row}
 use Rattle.policy.specs.Build.{empty_row, empty_table, empty_members}
-use Rattle.policy.specs.declared.Answer.{Answer}
+use Rattle.policy.specs.Outcome.{Answer}
 use Rattle.requests.specs.declared.Request.{Request}
 
 -- a list that begins as given and goes on with d, n in all

@@ -10,13 +10,7 @@ use Rattle.policy.specs.declared.Table.{Table}
 use Rattle.policy.specs.declared.Ranges.{Ranges}
 use Rattle.policy.specs.Build.{empty_row, empty_table, empty_ranges}
 use Rattle.number.specs.Run.{Step, go, stop, on_num, on_step, run}
-use Rattle.sections.specs.declared.Ended.{Ended}
-use Rattle.sections.specs.declared.Ended.TheVariants.{At, Stopped}
 use Rattle.sections.specs.Numbers.{set_at, count_at, member_at}
-use Rattle.rows.specs.declared.RangeRead.{RangeRead}
-use Rattle.rows.specs.declared.RowRead.{RowRead}
-use Rattle.rows.specs.declared.TableRead.{TableRead}
-use Rattle.rows.specs.declared.RangesRead.{RangesRead}
 
 -- ---- a row
 
@@ -68,33 +62,3 @@ range_step s roles admins i at m =
 unfoldable pub ranges_at : List ℕ → ℕ → ℕ → ℕ → Step Ranges
 ranges_at s roles admins at =
     on_num (count_at s 64 at) (λ n next. run (range_step s roles admins) n 0 next (ranges n (replicate 64 no_row)))
-
--- ---- how each is answered: where it is refused, with nothing in it
-
-abbrev pub no_range : Ended → RangeRead
-no_range h = record { how = h; range = range 0 0 0 }
-
-abbrev pub range_read : Step ModifyRow → RangeRead
-range_read (go e r) = record { how = At e; range = r }
-range_read (stop c p) = no_range (Stopped c p)
-
-abbrev pub no_table_row : Ended → RowRead
-no_table_row h = record { how = h; row = empty_row }
-
-abbrev pub row_read : Step Row → RowRead
-row_read (go e r) = record { how = At e; row = r }
-row_read (stop c p) = no_table_row (Stopped c p)
-
-abbrev pub no_table : Ended → TableRead
-no_table h = record { how = h; table = empty_table }
-
-abbrev pub table_read : Step Table → TableRead
-table_read (go e t) = record { how = At e; table = t }
-table_read (stop c p) = no_table (Stopped c p)
-
-abbrev pub no_ranges : Ended → RangesRead
-no_ranges h = record { how = h; ranges = empty_ranges }
-
-abbrev pub ranges_read : Step Ranges → RangesRead
-ranges_read (go e m) = record { how = At e; ranges = m }
-ranges_read (stop c p) = no_ranges (Stopped c p)

@@ -14,8 +14,8 @@ use Rattle.policy.specs.declared.Members.{Members}
 use Rattle.policy.specs.declared.People.{People}
 use Rattle.number.specs.Number.{num_at, tested}
 use Rattle.number.specs.Run.{Step, go, stop, on_num, on_step, run}
-use Rattle.number.specs.declared.Num.{Num}
-use Rattle.number.specs.declared.Num.TheVariants.{Value, Refused}
+use Rattle.number.specs.Number.{Num}
+use Rattle.number.specs.Number.{Value, Refused}
 use Rattle.number.proofs.Numbers.{num_refused}
 use Rattle.number.proofs.Tested.{tested-refused, tested_next, tested_place}
 use Rattle.sections.specs.Numbers.{set_at, count_at, member_at}

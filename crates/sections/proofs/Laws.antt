@@ -1,7 +1,8 @@
 -- What the readers of a section know at each number they have read.
 -- Assumes nothing.
 use Prim.Native.Nat.{ℕ, ◌^◌, ◌<◌, ◌≤◌}
-use mathlib.Core.Path.{◌≡◌, ◌∙◌, ap}
+use mathlib.Core.Path.{◌≡◌, refl}
+use Rattle.std.specs.Prelude.{Result, Ok, Err}
 use mathlib.Core.Bool.{true, false}
 use mathlib.Core.List.{List}
 use borrow.Author.Tests.{leb-true}
@@ -9,21 +10,17 @@ use lib.Dec.{leb}
 use lib.ListN.{set, replicate}
 use Rattle.sets.specs.Sets.{has}
 use Rattle.sets.proofs.Digits.{has_below}
-use Rattle.policy.specs.declared.Members.{Members}
 use Rattle.policy.specs.declared.People.{People}
-use Rattle.number.specs.Number.{num_at}
-use Rattle.number.specs.Run.{go, stop, run}
-use Rattle.number.specs.declared.Num.{Num}
-use Rattle.number.specs.declared.Num.TheVariants.{Value, Refused}
+use Rattle.number.specs.declared.NumberError.{NumberError}
+use Rattle.number.specs.Number.{num_at, as_num}
+use Rattle.number.specs.Run.{Step, go, stop, as_step, on_num, on_step, run}
+use Rattle.number.specs.Number.{Num}
+use Rattle.number.specs.Number.{Value, Refused}
 use Rattle.number.proofs.Tested.{tested_was}
-use Rattle.sections.specs.declared.Ended.{Ended}
-use Rattle.sections.specs.declared.Ended.TheVariants.{Stopped}
-use Rattle.sections.specs.Numbers.{set_at, count_at, member_at, ended_by}
+use Rattle.sections.proofs.Each.{each-read}
+use Rattle.sections.specs.Numbers.{set_at, count_at, member_at}
+use Rattle.sections.specs.Each.{things_read, put_step, each_at}
 use Rattle.sections.specs.Sections.{junior_step, juniors_at, order_at, people, user_step, people_at, members, member_step, members_at}
-
--- an answer that a refused number gave
-pub refused_by : {R : Type 0} (none : Ended → R) {r : R} {h : Ended} {n : Num} {c p : ℕ} → r ≡ none h → h ≡ ended_by n → n ≡ Refused c p → r ≡ none (Stopped c p)
-refused_by none e d q = e ∙ ap none (d ∙ ap ended_by q)
 
 -- a count that was read is within its size
 pub count_most : (s : List ℕ) (most at : ℕ) {x next : ℕ} → count_at s most at ≡ Value x next → x ≤ most
@@ -97,21 +94,27 @@ module _ (s : List ℕ) (roles admins at : ℕ) where
 
 -- ---- permissions
 
-module _ (s : List ℕ) (roles i at : ℕ) (m : Members) where
-  pub member_not : {c q : ℕ} → set_at s roles at ≡ Refused c q → member_step s roles i at m ≡ stop c q
-  unfolding member_step
-  member_not e = rw e
+module _ (s : List ℕ) (roles : ℕ) where
+  -- a set as a thing
+  abbrev pub set_item : ℕ → Step ℕ
+  set_item at = on_num (set_at s roles at) (λ x next. go next x)
 
-  pub member_in : {x next : ℕ} → set_at s roles at ≡ Value x next → member_step s roles i at m ≡ go next (members m.count (set m.roles i x))
-  unfolding member_step
-  member_in e = rw e
+  pub as_item : (r : Result (ℕ × ℕ) NumberError) (at : ℕ) → as_num r ≡ set_at s roles at → as_step r ≡ set_item at
+  as_item (Ok x) at e = rw (← e)
+  as_item (Err x) at e = rw (← e)
 
-module _ (s : List ℕ) (roles at : ℕ) where
-  pub members_none : {c p : ℕ} → count_at s 256 at ≡ Refused c p → members_at s roles at ≡ stop c p
+  member_put : (n i at : ℕ) (l : List ℕ)
+      → member_step s roles i at (members n l) ≡ on_step (put_step set_item i at l) (λ next k. go next (members n k))
+  unfolding member_step put_step
+  member_put n i at l = by (set_at s roles at)
+    where
+      by : (m : Num) → on_num m (λ x next. go next (members n (set l i x)))
+          ≡ on_step (on_step (on_num m (λ x next. go next x)) (λ next x. go next (set l i x))) (λ next k. go next (members n k))
+      by (Value x next) = refl
+      by (Refused c p) = refl
+
+  pub members-read : (at : ℕ) (r : Result (ℕ × ℕ) NumberError) (k : List ℕ)
+      → things_read r k ≡ each_at s set_item at (replicate 256 0)
+      → on_step (as_step r) (λ next n. go next (members n k)) ≡ members_at s roles at
   unfolding members_at
-  members_none e = rw e
-
-  pub members_run : {n next : ℕ} → count_at s 256 at ≡ Value n next
-      → members_at s roles at ≡ run (member_step s roles) n 0 next (members n (replicate 256 0))
-  unfolding members_at
-  members_run e = rw e
+  members-read at r k e = each-read set_item (member_step s roles) members member_put s at (replicate 256 0) r k e

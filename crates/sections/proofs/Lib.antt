@@ -1,4 +1,4 @@
-pub mod Answers
+pub mod Each
 pub mod Laws
 pub mod Bounds
 pub mod Filled

@@ -21,7 +21,7 @@ use Rattle.policy.specs.declared.People.{People}
 use Rattle.policy.specs.Good.{GoodSets}
 use Rattle.number.specs.Number.{num_at}
 use Rattle.number.specs.Run.{go, on_num}
-use Rattle.number.specs.declared.Num.TheVariants.{Value}
+use Rattle.number.specs.Number.{Value}
 use Rattle.number.proofs.Numbers.{num_small}
 use Rattle.number.proofs.Tested.{tested_was}
 use Rattle.number.proofs.Runs.{on_num_lem, on_step_lem}

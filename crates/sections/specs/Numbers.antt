@@ -3,11 +3,7 @@
 -- s is the input, a list of bytes; at is the place of the number's first byte.
 use Rattle.std.specs.Prelude.{ℕ, List, leb}
 use Rattle.sets.specs.Sets.{has, subset}
-use Rattle.number.specs.Number.{num_at, tested}
-use Rattle.number.specs.declared.Num.{Num}
-use Rattle.number.specs.declared.Num.TheVariants.{Value, Refused}
-use Rattle.sections.specs.declared.Ended.{Ended}
-use Rattle.sections.specs.declared.Ended.TheVariants.{At, Stopped}
+use Rattle.number.specs.Number.{Num, num_at, tested}
 
 -- "A set is a number with bit n for member n", and it names members of `of` alone
 unfoldable pub set_at : List ℕ → ℕ → ℕ → Num
@@ -20,8 +16,3 @@ count_at s most at = tested (λ x. leb x most) at (num_at s at)
 -- what a row names: a member of `of`
 unfoldable pub member_at : List ℕ → ℕ → ℕ → Num
 member_at s of at = tested (has of) at (num_at s at)
-
--- how a section ends of which this is the last number
-abbrev pub ended_by : Num → Ended
-ended_by (Value x next) = At next
-ended_by (Refused c p) = Stopped c p

@@ -6,13 +6,7 @@ use Rattle.sets.specs.Sets.{has, set_of}
 use Rattle.order.specs.declared.Order.{Order}
 use Rattle.policy.specs.declared.Members.{Members}
 use Rattle.policy.specs.declared.People.{People}
-use Rattle.policy.specs.Build.{empty_order, empty_members}
 use Rattle.number.specs.Run.{Step, go, stop, on_num, on_step, run}
-use Rattle.sections.specs.declared.Ended.{Ended}
-use Rattle.sections.specs.declared.Ended.TheVariants.{At, Stopped}
-use Rattle.sections.specs.declared.OrderRead.{OrderRead}
-use Rattle.sections.specs.declared.PeopleRead.{PeopleRead}
-use Rattle.sections.specs.declared.MembersRead.{MembersRead}
 use Rattle.sections.specs.Numbers.{set_at, count_at}
 
 -- ---- "set of roles; for each role in use, ascending, its set of strict juniors; the same two for administrative roles"
@@ -59,26 +53,3 @@ member_step s roles i at m = on_num (set_at s roles at) (λ x next. go next (mem
 
 unfoldable pub members_at : List ℕ → ℕ → ℕ → Step Members
 members_at s roles at = on_num (count_at s 256 at) (λ n next. run (member_step s roles) n 0 next (members n (replicate 256 0)))
-
--- ---- how a section is answered: where it is refused, with nothing in it
-
-abbrev pub no_order : Ended → OrderRead
-no_order h = record { how = h; order = empty_order }
-
-abbrev pub order_read : Step Order → OrderRead
-order_read (go e o) = record { how = At e; order = o }
-order_read (stop c p) = no_order (Stopped c p)
-
-abbrev pub no_people : Ended → PeopleRead
-no_people h = record { how = h; people = people 0 (replicate 256 0) (replicate 256 0) }
-
-abbrev pub people_read : Step People → PeopleRead
-people_read (go e p) = record { how = At e; people = p }
-people_read (stop c p) = no_people (Stopped c p)
-
-abbrev pub no_members : Ended → MembersRead
-no_members h = record { how = h; members = empty_members }
-
-abbrev pub members_read : Step Members → MembersRead
-members_read (go e m) = record { how = At e; members = m }
-members_read (stop c p) = no_members (Stopped c p)

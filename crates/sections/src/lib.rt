@@ -1,224 +1,130 @@
 // The policy file before its tables: sets, counts and members, an order, users, permissions.
 #![tactic(auto)]
 
-ghost use Rattle.std.specs.Prelude.{◌≡◌};
-ghost use Rattle.number.specs.declared.Num.{Num};
-ghost use Rattle.sections.specs.Numbers.{set_at, count_at, member_at, ended_by};
-ghost use Rattle.sections.specs.Sections.{no_order, order_at, order_read, no_people, people_at, people_read, no_members, members_at, members_read};
+ghost use Rattle.std.specs.Prelude.{◌≡◌, Bool, ℕ, ◌<◌, ◌^◌};
+ghost use Rattle.number.specs.Number.{num_at, tested, as_num};
+ghost use Rattle.number.specs.Run.{Step, as_step};
+ghost use Rattle.sections.specs.Numbers.{set_at, count_at, member_at};
+ghost use Rattle.sections.specs.Each.{Reads, things_read, each_at};
+ghost use Rattle.sections.specs.Sections.{order_at, people_at, members_at};
 
-use number::{Num, read_number};
+use number::{NumberError, read_number};
 use order::Order;
 use policy::{Members, People};
-use sets::{has, subset};
+use sets::{contains, has, subset};
 
-// How the reading of a section ends.
-#[derive(Clone, Copy)]
-pub enum Ended {
-    // The place past it.
-    At(usize),
-    // The refusal's number, and its place.
-    Stopped(u8, usize),
-}
-
-#[derive(Clone, Copy)]
-pub struct OrderRead {
-    pub how: Ended,
-    pub order: Order,
-}
-
-#[derive(Clone, Copy)]
-pub struct PeopleRead {
-    pub how: Ended,
-    pub people: People,
-}
-
-#[derive(Clone, Copy)]
-pub struct MembersRead {
-    pub how: Ended,
-    pub members: Members,
+// A number that passes a test, with the place past it; 22 where it does not pass.
+pub fn read_fitting<F: FnOnce(u64) -> bool>(
+    s: &[u8],
+    at: usize,
+    fits: F,
+) -> Result<(u64, usize), NumberError>
+    requires { F.IsAlwaysCallable fits }
+    ensures { (test : ℕ → Bool) → ((x : ℕ) (b : Bool) → x < 2 ^ 64 → F.post fits x b → b ≡ test x) → as_num result ≡ tested test at (num_at s.now at) }
+{
+    let number = read_number(s, at);
+    let Ok((x, _)) = number else {
+        return number;
+    };
+    if fits(x) {
+        number
+    } else {
+        Err(NumberError::Unfit(at))
+    }
 }
 
 // A set of members of `of`.
-pub fn read_set(s: &[u8], at: usize, of: u64) -> Num
-    ensures { result ≡ set_at s.now of at }
+pub fn read_set(s: &[u8], at: usize, of: u64) -> Result<(u64, usize), NumberError>
+    ensures { as_num result ≡ set_at s.now of at }
 {
-    let n = read_number(s, at);
-    let Num::Value(x, _) = n else {
-        return n;
-    };
-    if subset(x, of) {
-        n
-    } else {
-        Num::Refused(22, at)
-    }
+    read_fitting(s, at, |x| subset(x, of))
 }
 
 // A count, or another number, of at most `most`.
-pub fn read_count(s: &[u8], at: usize, most: u64) -> Num
-    ensures { result ≡ count_at s.now most at }
+pub fn read_count(s: &[u8], at: usize, most: u64) -> Result<(u64, usize), NumberError>
+    ensures { as_num result ≡ count_at s.now most at }
 {
-    let n = read_number(s, at);
-    let Num::Value(x, _) = n else {
-        return n;
-    };
-    if x <= most { n } else { Num::Refused(22, at) }
+    read_fitting(s, at, |x| x <= most)
 }
 
 // A member of `of`.
-pub fn read_member(s: &[u8], at: usize, of: u64) -> Num
-    ensures { result ≡ member_at s.now of at }
+pub fn read_member(s: &[u8], at: usize, of: u64) -> Result<(u64, usize), NumberError>
+    ensures { as_num result ≡ member_at s.now of at }
 {
-    let n = read_number(s, at);
-    let Num::Value(x, _) = n else {
-        return n;
-    };
-    if 64 <= x {
-        return Num::Refused(22, at);
-    }
-    if has(of, x as usize) {
-        n
-    } else {
-        Num::Refused(22, at)
-    }
-}
-
-// How a section ends of which this is the last number.
-pub fn ended_by(n: Num) -> Ended
-    ensures { result ≡ ended_by n }
-{
-    match n {
-        Num::Value(_, next) => Ended::At(next),
-        Num::Refused(c, p) => Ended::Stopped(c, p),
-    }
-}
-
-fn no_order(how: Ended) -> OrderRead
-    ensures { result ≡ no_order how }
-{
-    OrderRead {
-        how,
-        order: Order {
-            used: 0,
-            juniors: [0u64; 64],
-        },
-    }
+    read_fitting(s, at, |x| contains(of, x))
 }
 
 // The numbers in use, of all that there are, and of each in use its strict juniors.
-pub fn read_order(s: &[u8], at: usize, all: u64) -> OrderRead
-    ensures { result ≡ order_read (order_at s.now all at) }
+pub fn read_order(s: &[u8], at: usize, all: u64) -> Result<(Order, usize), NumberError>
+    ensures { as_step result ≡ order_at s.now all at }
 {
-    let n = read_set(s, at, all);
-    let Num::Value(used, first) = n else {
-        return no_order(ended_by(n));
-    };
+    let (used, first) = read_set(s, at, all)?;
     let mut juniors = [0u64; 64];
     let mut place = first;
-    let mut next = 0;
-    while next < 64 {
-        let i = next;
-        next = i + 1;
+    for i in 0..64 {
         if has(used, i) {
-            let m = read_set(s, place, used);
-            let Num::Value(x, past) = m else {
-                return no_order(ended_by(m));
-            };
+            let (x, past) = read_set(s, place, used)?;
             juniors[i] = x;
             place = past;
         }
     }
-    OrderRead {
-        how: Ended::At(place),
-        order: Order { used, juniors },
-    }
+    Ok((Order { used, juniors }, place))
 }
 
-fn no_people(how: Ended) -> PeopleRead
-    ensures { result ≡ no_people how }
+// A count of at most the places there are, and so many things, each where the one before it ends: how many there are, and the place past them.
+pub fn read_each<T: Copy, F: Fn(usize) -> Result<(T, usize), NumberError>>(
+    s: &[u8],
+    at: usize,
+    things: &mut [T],
+    read: F,
+) -> Result<(usize, usize), NumberError>
+    requires { F.IsAlwaysCallable read }
+    ensures { (item : ℕ → Step T) → Reads (F.post read) item → things_read result things.new ≡ each_at s.now item at things.old }
 {
-    PeopleRead {
-        how,
-        people: People {
-            users: Members {
-                count: 0,
-                roles: [0u64; 256],
-            },
-            offices: [0u64; 256],
-        },
+    let (most, first) = read_count(s, at, things.len() as u64)?;
+    let count = most as usize;
+    let mut place = first;
+    for i in 0..count {
+        let (thing, past) = read(place)?;
+        things[i] = thing;
+        place = past;
     }
+    Ok((count, place))
 }
+
+// The most users that a policy has.
+const USERS: u64 = 256;
 
 // The users: of each its roles, inside those in use, and its administrative roles, inside those in use.
-pub fn read_people(s: &[u8], at: usize, roles: u64, admins: u64) -> PeopleRead
-    ensures { result ≡ people_read (people_at s.now roles admins at) }
+pub fn read_people(
+    s: &[u8],
+    at: usize,
+    roles: u64,
+    admins: u64,
+) -> Result<(People, usize), NumberError>
+    ensures { as_step result ≡ people_at s.now roles admins at }
 {
-    let c = read_count(s, at, 256);
-    let Num::Value(most, first) = c else {
-        return no_people(ended_by(c));
-    };
+    let (most, first) = read_count(s, at, USERS)?;
     let count = most as usize;
     let mut held = [0u64; 256];
     let mut offices = [0u64; 256];
     let mut place = first;
-    let mut i = 0;
-    while i < count {
-        let a = read_set(s, place, roles);
-        let Num::Value(x, mid) = a else {
-            return no_people(ended_by(a));
-        };
-        let b = read_set(s, mid, admins);
-        let Num::Value(y, past) = b else {
-            return no_people(ended_by(b));
-        };
+    for i in 0..count {
+        let (x, mid) = read_set(s, place, roles)?;
+        let (y, past) = read_set(s, mid, admins)?;
         held[i] = x;
         offices[i] = y;
         place = past;
-        i += 1;
     }
-    PeopleRead {
-        how: Ended::At(place),
-        people: People {
-            users: Members { count, roles: held },
-            offices,
-        },
-    }
-}
-
-fn no_members(how: Ended) -> MembersRead
-    ensures { result ≡ no_members how }
-{
-    MembersRead {
-        how,
-        members: Members {
-            count: 0,
-            roles: [0u64; 256],
-        },
-    }
+    let users = Members { count, roles: held };
+    Ok((People { users, offices }, place))
 }
 
 // The permissions: of each its roles, inside those in use.
-pub fn read_members(s: &[u8], at: usize, roles: u64) -> MembersRead
-    ensures { result ≡ members_read (members_at s.now roles at) }
+pub fn read_members(s: &[u8], at: usize, roles: u64) -> Result<(Members, usize), NumberError>
+    ensures { as_step result ≡ members_at s.now roles at }
 {
-    let k = read_count(s, at, 256);
-    let Num::Value(most, first) = k else {
-        return no_members(ended_by(k));
-    };
-    let count = most as usize;
     let mut held = [0u64; 256];
-    let mut place = first;
-    let mut i = 0;
-    while i < count {
-        let a = read_set(s, place, roles);
-        let Num::Value(x, past) = a else {
-            return no_members(ended_by(a));
-        };
-        held[i] = x;
-        place = past;
-        i += 1;
-    }
-    MembersRead {
-        how: Ended::At(place),
-        members: Members { count, roles: held },
-    }
+    let (count, place) = read_each(s, at, &mut held, |place| read_set(s, place, roles))?;
+    Ok((Members { count, roles: held }, place))
 }

@@ -2,7 +2,7 @@
 -- A loop's invariant names the law's statement, and the loop's start, turn and end each cite one law.
 -- Assumes nothing.
 use mathlib.Core.Path.{◌≡◌, refl, sym, ap, ◌∙◌, subst}
-use mathlib.Core.Logic.{◌⊎◌, ⊎_elim}
+use mathlib.Core.Logic.{⊎_elim}
 use mathlib.Core.Bool.{Bool, true, false}
 use mathlib.Core.List.{List}
 use Prim.Native.Nat.{ℕ, ◌+◌, ◌≤◌, ◌<◌, zero-le}
@@ -13,6 +13,10 @@ use borrow.Author.Tests.{eq-eqb, ne_eqb, eqb-true, lt-ltb, le-ltb}
 use lib.Dec.{eqb, ltb}
 use lib.ListN.{length, get_or, set}
 use lib.Seq.{get_or-set_same, get_or-set_other}
+use Rattle.std.specs.Prelude.{MatchOption}
+use Rattle.std.specs.Option.{unwrap_or}
+use Rattle.std.specs.declared.option.Option.{Option}
+use Rattle.std.specs.declared.option.Option.TheVariants.{None as Nowhere, Some}
 use Rattle.sets.specs.Tests.{◌and◌, ◌or◌}
 use Rattle.sets.specs.Sets.{has, all, any, least, set_of, Exactly}
 use Rattle.sets.proofs.Tests.{and_given, and_fails_l, or_fails, or_l, or_r}
@@ -46,6 +50,13 @@ none_any w f i l h = sym (any_fails w f (λ n m. h.below n (lt_of_lt_of_le m l))
 -- the same where the loop ends before the width, since none passes from there on
 pub none_past : (w v : ℕ) (f : ℕ → Bool) (i : ℕ) → v ≤ i → ((n : ℕ) → v ≤ n → f n ≡ false) → None f i → false ≡ any w f
 none_past w v f i l past h = sym (any_fails w f (λ n m. ⊎_elim (λ k. h.below n k) (λ k. past n (le_trans l k)) (lt_or_le n i)))
+
+-- what `find` gives over the numbers below the width, with the width where it finds none
+pub found_or : (w : ℕ) (f : ℕ → Bool) (r : Option ℕ)
+    → MatchOption r ((k : ℕ) → k < w → f k ≡ false) (λ a. (a < w) × (f a ≡ true) × ((k : ℕ) → k < a → f k ≡ false))
+    → unwrap_or r w ≡ least w f
+found_or w f Nowhere h = none_least w f w (omega arith) (record { below = h })
+found_or w f (Some a) h = found_least w f a h.0 (record { below = h.2 }) h.1
 
 -- ---- a loop that tests that every index passes and leaves at the first that does not: all below i have passed
 pub record All (f : ℕ → Bool) (i : ℕ) : Type 0 where
@@ -127,4 +138,11 @@ rewrite_turn P old new i v h s p = record {
       (λ n l. subst (P n) (sym (get_or-set_other new i n v 0 (omega arith))) (s.done n l))
       (subst (P i) (sym (get_or-set_same new i v 0 h)) p);
   rest = λ n l. get_or-set_other new i n v 0 (omega arith) ∙ s.rest n (omega arith);
+}
+
+-- i is done already, and stays
+pub rewrite_skip : (P : ℕ → ℕ → Type 0) (old new : List ℕ) (i : ℕ) → Rewritten P old new i → P i (get_or old i 0) → Rewritten P old new (i + 1)
+rewrite_skip P old new i s p = record {
+  done = below_more (λ n. P n (get_or new n 0)) i s.done (subst (P i) (sym (s.rest i (omega arith))) p);
+  rest = λ n l. s.rest n (omega arith);
 }

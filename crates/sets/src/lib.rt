@@ -17,10 +17,7 @@ pub fn has(s: u64, n: usize) -> bool
 pub fn contains(s: u64, n: u64) -> bool
     ensures { result ≡ has s n }
 {
-    if 64 <= n {
-        return false;
-    }
-    has(s, n as usize)
+    n < 64 && has(s, n as usize)
 }
 
 // The set of n alone.

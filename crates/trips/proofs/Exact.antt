@@ -10,7 +10,7 @@ use lib.ListN.{length, get_or}
 use Rattle.sets.specs.Sets.{has, subset}
 use Rattle.number.specs.Number.{num_at, num_bytes, tested, part}
 use Rattle.number.specs.Run.{Step, go, on_num, run, each}
-use Rattle.number.specs.declared.Num.TheVariants.{Value}
+use Rattle.number.specs.Number.{Value}
 use Rattle.number.proofs.Parts.{part_none, part_join}
 use Rattle.number.proofs.Numbers.{num_next}
 use Rattle.number.proofs.Tested.{tested_was}

@@ -11,8 +11,8 @@ use lib.Dec.{leb}
 use lib.ListN.{length}
 use Rattle.sets.specs.Tests.{◌or◌, pick}
 use Rattle.number.specs.Number.{byte, last_of, value_of, is_long, is_over, ends_with, num_at, tested}
-use Rattle.number.specs.declared.Num.{Num}
-use Rattle.number.specs.declared.Num.TheVariants.{Value, Refused}
+use Rattle.number.specs.Number.{Num}
+use Rattle.number.specs.Number.{Value, Refused}
 use Rattle.sections.specs.Numbers.{set_at, count_at, member_at}
 use Rattle.reading.specs.File.{one_at}
 use Rattle.trips.specs.Refusals.{Fails, cut_short, malformed, unfit}

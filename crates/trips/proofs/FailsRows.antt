@@ -10,7 +10,7 @@ use Rattle.ranges.specs.declared.ModifyRow.{ModifyRow}
 use Rattle.policy.specs.declared.Table.{Table}
 use Rattle.policy.specs.declared.Ranges.{Ranges}
 use Rattle.number.specs.Run.{go, stop}
-use Rattle.number.specs.declared.Num.TheVariants.{Value}
+use Rattle.number.specs.Number.{Value}
 use Rattle.sections.specs.Numbers.{count_at}
 use Rattle.rows.specs.Rows.{row, range_at, condition_at, table_row_at, row_step, table_at, range_step, ranges_at}
 use Rattle.trips.specs.Refusals.{RangeFails, admin, low, high, RangesFails}

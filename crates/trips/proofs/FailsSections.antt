@@ -12,7 +12,7 @@ use Rattle.sets.specs.Sets.{has}
 use Rattle.policy.specs.declared.Members.{Members}
 use Rattle.policy.specs.declared.People.{People}
 use Rattle.number.specs.Run.{Step, go, stop, on_num, run}
-use Rattle.number.specs.declared.Num.TheVariants.{Value}
+use Rattle.number.specs.Number.{Value}
 use Rattle.sections.specs.Numbers.{set_at, count_at}
 use Rattle.sections.specs.Sections.{junior_step, juniors_at, order_at, user_step, people_at, member_step, members_at}
 use Rattle.trips.specs.Refusals.{SetFails, OrderFails, set_of-all, juniors_of, EachFails, the_count, item}

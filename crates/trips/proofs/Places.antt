@@ -21,18 +21,18 @@ use Rattle.policy.specs.declared.Ranges.{Ranges}
 use Rattle.policy.specs.Build.{empty_row}
 use Rattle.number.specs.Number.{byte, ends, last_of, value_of, is_long, is_over, ends_with, num_at, tested}
 use Rattle.number.specs.Run.{Step, go, stop, on_num, on_step, run}
-use Rattle.number.specs.declared.Num.{Num}
-use Rattle.number.specs.declared.Num.TheVariants.{Value, Refused}
+use Rattle.number.specs.Number.{Num}
+use Rattle.number.specs.Number.{Value, Refused}
 use Rattle.number.proofs.Tested.{tested_was}
 use Rattle.sections.specs.Numbers.{set_at, count_at, member_at}
 use Rattle.sections.specs.Sections.{all_below, junior_step, juniors_at, order_at, people, user_step, people_at, members, member_step, members_at}
 use Rattle.rows.specs.Rows.{row, range_at, condition_at, table_row_at, table, row_step, table_at, ranges, range_step, ranges_at}
 use Rattle.faults.specs.Faults.{fault}
-use Rattle.reading.specs.declared.Front.{Front}
-use Rattle.reading.specs.declared.How.TheVariants as how
+use Rattle.reading.specs.File.{Front}
+use Rattle.reading.specs.File as how
 use Rattle.reading.specs.File.{one_at, front_at, Rest, rest_at, file, judge, file_at, read_policy}
 use Rattle.reading.proofs.Theorems.{of_refused, file_end}
-use Rattle.parts.specs.declared.Part.TheVariants.{Found}
+use Rattle.parts.specs.Parts.{Found}
 use Rattle.parts.specs.Parts.{part_at}
 use Rattle.parts.proofs.Laws.{part_found, found_inside}
 

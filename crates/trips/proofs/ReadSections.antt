@@ -22,7 +22,7 @@ use Rattle.policy.specs.declared.People.{People}
 use Rattle.policy.specs.Good.{GoodOrder, GoodSets}
 use Rattle.number.specs.Number.{num_bytes}
 use Rattle.number.specs.Run.{go, each}
-use Rattle.number.specs.declared.Num.TheVariants.{Value}
+use Rattle.number.specs.Number.{Value}
 use Rattle.number.proofs.Parts.{Stands, stands_first, stands_second}
 use Rattle.number.proofs.Tested.{tested_written}
 use Rattle.sections.specs.Numbers.{set_at, count_at, member_at}

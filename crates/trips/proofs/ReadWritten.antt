@@ -25,7 +25,7 @@ use Rattle.number.proofs.Parts.{Stands, stands_first, stands_second}
 use Rattle.number.proofs.Tested.{tested_written}
 use Rattle.faults.specs.Faults.{not_strict, some_low, some_open, two_overlap, fault}
 use Rattle.faults.proofs.Laws.{strict_found}
-use Rattle.reading.specs.declared.How.TheVariants.{Accepted}
+use Rattle.reading.specs.File.{Accepted}
 use Rattle.reading.specs.declared.Places.{Places}
 use Rattle.reading.specs.File.{one_at, front, front_at, rest, places, rest_at, judge, file_at, read_policy}
 use Rattle.layout.specs.Layout.{order_bytes, users_bytes, permissions_bytes, rows_bytes, ranges_bytes, table_of, tables_bytes, sections_bytes, policy_bytes}

@@ -15,8 +15,8 @@ use Rattle.policy.specs.Outcome.{Refusals, accept, refuse}
 use Rattle.policy.proofs.FirstLaws.{names as has_number, distinct, leads, first_leads}
 use Rattle.number.specs.Run.{go, stop}
 use Rattle.faults.specs.Faults.{not_strict, some_low, some_open, two_overlap, fault}
-use Rattle.reading.specs.declared.Front.{Front}
-use Rattle.reading.specs.declared.How.TheVariants as how
+use Rattle.reading.specs.File.{Front}
+use Rattle.reading.specs.File as how
 use Rattle.reading.specs.File.{front_at, Rest, rest_at, file, judge, file_at, read_policy}
 use Rattle.reading.proofs.Theorems.{of_refused}
 use Rattle.trips.specs.Refusals.{RefusedBy, first_number, in_roles, in_admins, in_users, in_permissions}

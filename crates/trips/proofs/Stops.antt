@@ -4,8 +4,8 @@ use Prim.Native.Nat.{ℕ, zero, suc, ◌+◌, ◌<◌}
 use mathlib.Core.Path.{◌≡◌, refl}
 use native.Mathlib.Omega.{arith}
 use Rattle.number.specs.Run.{Step, go, stop, on_num, on_step, run}
-use Rattle.number.specs.declared.Num.{Num}
-use Rattle.number.specs.declared.Num.TheVariants.{Value, Refused}
+use Rattle.number.specs.Number.{Num}
+use Rattle.number.specs.Number.{Value, Refused}
 use Rattle.number.proofs.Runs.{on_step_lem}
 
 -- a reading that has gone on was not stopped

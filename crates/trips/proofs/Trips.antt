@@ -10,19 +10,20 @@ use Rattle.policy.specs.Good.{Good}
 use Rattle.number.specs.Number.{part}
 use Rattle.number.proofs.Parts.{stands_part}
 use Rattle.number.proofs.Stores.{sets_stands}
-use Rattle.reading.specs.declared.How.TheVariants.{Accepted}
+use Rattle.reading.specs.File.{Accepted}
 use Rattle.reading.specs.File.{read_policy}
 use Rattle.reading.proofs.Theorems.{accepted_good}
 use Rattle.layout.specs.Layout.{policy_bytes}
 use Rattle.layout.proofs.Most.{always_enough}
-use Rattle.writing.specs.declared.Written.{Written}
+use Rattle.std.specs.Prelude.{Result}
+use Rattle.policy.specs.declared.Refusal.{Refusal}
 use Rattle.writing.specs.Writing.{Output, written_length}
 use Rattle.writing.proofs.Outputs.{accepted, long_bytes}
 use Rattle.trips.proofs.ReadWritten.{read_written_policy}
 use Rattle.trips.proofs.WrittenRead.{written_read_policy}
 
 -- the buffer up to the length that is returned is the file
-pub written_part : (p : Policy) (o : List ℕ) {r : Written} {a : List ℕ} → Output p o r a → length (policy_bytes p) ≤ length o
+pub written_part : (p : Policy) (o : List ℕ) {r : Result ℕ Refusal} {a : List ℕ} → Output p o r a → length (policy_bytes p) ≤ length o
     → part a 0 (written_length r) ≡ policy_bytes p
 written_part p o x h =
     let l = (accepted p o x h).1 in
@@ -31,13 +32,13 @@ written_part p o x h =
     rw (l, b) (rw z at (stands_part (sets_stands o 0 (policy_bytes p) (omega arith))))
 
 -- Reading what was written gives the same policy, for every good policy.
-pub read_after_write : (p : Policy) → Good p → (o : List ℕ) {r : Written} {a : List ℕ} → Output p o r a → length (policy_bytes p) ≤ length o
+pub read_after_write : (p : Policy) → Good p → (o : List ℕ) {r : Result ℕ Refusal} {a : List ℕ} → Output p o r a → length (policy_bytes p) ≤ length o
     → read_policy (part a 0 (written_length r)) ≡ record { how = Accepted; policy = p }
 read_after_write p g o x h = rw (written_part p o x h) (read_written_policy p g)
 
 module _ (s : List ℕ) (small : (k : ℕ) → get_or s k 0 < 256) (q : (read_policy s).how ≡ Accepted) where
   -- Writing what was read gives the same bytes, for every accepted file.
-  pub write_after_read : (o : List ℕ) {r : Written} {a : List ℕ} → Output (read_policy s).policy o r a → length s ≤ length o
+  pub write_after_read : (o : List ℕ) {r : Result ℕ Refusal} {a : List ℕ} → Output (read_policy s).policy o r a → length s ≤ length o
       → (written_length r ≡ length s) × (part a 0 (length s) ≡ s)
   write_after_read o {r} {a} x h =
       let e = written_read_policy s small q in

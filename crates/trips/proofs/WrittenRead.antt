@@ -12,12 +12,13 @@ use lib.Seq.{take_all}
 use Rattle.sets.proofs.Tests.{by_test, and_l, and_r}
 use Rattle.number.specs.Number.{num_at, num_bytes, part}
 use Rattle.number.specs.Run.{Step, go, stop}
-use Rattle.number.specs.declared.Num.TheVariants.{Value}
+use Rattle.number.specs.Number.{Value}
 use Rattle.number.proofs.Tested.{tested_was}
 use Rattle.sections.specs.Sections.{all_below}
-use Rattle.reading.specs.declared.How.TheVariants.{Accepted}
-use Rattle.reading.specs.declared.Front.{Front}
-use Rattle.reading.specs.File.{one_at, Rest, File, file_at, loaded, read_policy}
+use Rattle.reading.specs.File.{Accepted}
+use Rattle.reading.specs.File.{Front}
+use Rattle.reading.specs.declared.File.{File}
+use Rattle.reading.specs.File.{one_at, Rest, file_at, loaded, read_policy}
 use Rattle.reading.proofs.Right.{FrontSteps, RestSteps, file_whole}
 use Rattle.reading.proofs.Theorems.{file_end}
 use Rattle.parts.specs.Parts.{is_table, start_of, end_of, part_bytes}

@@ -16,7 +16,7 @@ use Rattle.policy.specs.declared.Ranges.{Ranges}
 use Rattle.policy.specs.Build.{empty_row}
 use Rattle.number.specs.Number.{num_bytes}
 use Rattle.number.specs.Run.{go}
-use Rattle.number.specs.declared.Num.TheVariants.{Value}
+use Rattle.number.specs.Number.{Value}
 use Rattle.number.proofs.Runs.{on_num_lem, on_step_lem}
 use Rattle.number.proofs.RunTrip.{Stepped}
 use Rattle.sections.specs.Numbers.{set_at, count_at, member_at}

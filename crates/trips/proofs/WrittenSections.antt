@@ -14,7 +14,7 @@ use Rattle.policy.specs.declared.Members.{Members}
 use Rattle.policy.specs.declared.People.{People}
 use Rattle.number.specs.Number.{num_bytes}
 use Rattle.number.specs.Run.{go, on_num}
-use Rattle.number.specs.declared.Num.TheVariants.{Value}
+use Rattle.number.specs.Number.{Value}
 use Rattle.number.proofs.Runs.{on_num_lem, on_step_lem}
 use Rattle.number.proofs.RunTrip.{Stepped, each_run}
 use Rattle.sections.specs.Numbers.{set_at}

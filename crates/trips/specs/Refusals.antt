@@ -19,12 +19,12 @@ use Rattle.policy.specs.declared.Table.{Table}
 use Rattle.policy.specs.Build.{empty_row}
 use Rattle.number.specs.Number.{byte, last_of, is_long, is_over, num_at}
 use Rattle.number.specs.Run.{Step, go, run}
-use Rattle.number.specs.declared.Num.TheVariants.{Value}
+use Rattle.number.specs.Number.{Value}
 use Rattle.sections.specs.Numbers.{set_at, count_at, member_at}
 use Rattle.sections.specs.Sections.{all_below, junior_step, order_at, people, user_step, people_at, members, member_step}
 use Rattle.rows.specs.Rows.{range_at, table, row_step, table_at, ranges, range_step}
 use Rattle.faults.specs.Faults.{fault}
-use Rattle.reading.specs.declared.Front.{Front}
+use Rattle.reading.specs.File.{Front}
 use Rattle.reading.specs.File.{one_at, front_at, Rest, rest_at}
 
 -- ---- one number: the one whose first byte stands at a place, and which has to pass a test

@@ -2,7 +2,7 @@
 use Rattle.std.specs.Prelude.{◌≡◌, ℕ, ◌+◌, ◌*◌, List, take, replicate}
 use Rattle.number.specs.Number.{part}
 use Rattle.requests.specs.declared.Request.{Request}
-use Rattle.reading.specs.declared.How.TheVariants.{Accepted}
+use Rattle.reading.specs.File.{Accepted}
 use Rattle.reading.specs.File.{read_policy}
 use Rattle.parts.specs.Parts.{part_bytes}
 use Rattle.layout.specs.Layout.{policy_bytes}

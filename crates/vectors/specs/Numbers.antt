@@ -1,5 +1,5 @@
 -- Numbers of the data files' records, "lowest byte first".
-use Rattle.std.specs.Prelude.{ℕ, ◌+◌, ◌*◌, ◌<◌, ◌≤◌, List, slice_index}
+use Rattle.std.specs.Prelude.{ℕ, ◌+◌, ◌*◌, List, slice_index}
 
 abbrev pub byte_at : List ℕ → ℕ → ℕ
 byte_at s at = slice_index s at
@@ -12,11 +12,3 @@ four_at s at = two_at s at + 65536 * two_at s (at + 2)
 
 abbrev pub eight_at : List ℕ → ℕ → ℕ
 eight_at s at = four_at s at + 4294967296 * four_at s (at + 4)
-
--- two parts that lie one after the other inside the input
-abbrev pub InTurn : ℕ → ℕ → ℕ → ℕ → Type 0
-InTurn start middle end all = (start ≤ middle) × (middle ≤ end) × (end ≤ all)
-
--- a place further on, inside the input
-abbrev pub Onward : ℕ → ℕ → ℕ → Type 0
-Onward at end all = (at < end) × (end ≤ all)

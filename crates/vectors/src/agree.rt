@@ -8,19 +8,16 @@ ghost use Rattle.vectors.specs.Agree.{FileIs, RequestIs, ListingIs, TableIs};
 use check::same;
 use entries::{aestilumne_check, aestilumne_listing, aestilumne_request, aestilumne_table};
 use parts::table_part;
-use policy::Policy;
-use reading::{How, read_policy};
+use policy::{Policy, empty_policy};
+use reading::read_policy;
 use requests::Request;
-use writing::{Written, write_policy};
+use writing::write_policy;
 
 // Are these the buffer's first n bytes?
 fn starts(out: &[u8], n: usize, bytes: &[u8]) -> bool
     ensures { result ≡ true → take n out.now ≡ bytes.now }
 {
-    if out.len() < n {
-        return false;
-    }
-    same(&out[..n], bytes)
+    n <= out.len() && same(&out[..n], bytes)
 }
 
 // Are these the bytes of the policy's file?
@@ -29,11 +26,10 @@ fn is_file(p: Policy, file: &[u8]) -> bool
     ensures { result ≡ true → policy_bytes p ≡ file.now }
 {
     let mut out = [0u8; 10375];
-    let written = write_policy(p, &mut out);
-    let Written::Length(n) = written else {
-        return false;
-    };
-    starts(&out, n, file)
+    match write_policy(p, &mut out) {
+        Ok(n) => starts(&out, n, file),
+        Err(_) => false,
+    }
 }
 
 pub fn file_agrees(s: &[u8], answer: u64) -> bool
@@ -42,12 +38,11 @@ pub fn file_agrees(s: &[u8], answer: u64) -> bool
     if aestilumne_check(s) != answer {
         return false;
     }
-    let file = read_policy(s);
-    let how = file.how;
-    let How::Accepted = how else {
-        return true;
-    };
-    is_file(file.policy, s)
+    let mut policy = empty_policy();
+    match read_policy(s, &mut policy) {
+        Ok(()) => is_file(policy, s),
+        Err(_) => true,
+    }
 }
 
 pub fn request_agrees(s: &[u8], q: Request, answer: u64, file: &[u8]) -> bool

@@ -1,184 +1,171 @@
-// The records of the data files, as tests/README.md gives them. A record that is cut short does not agree, and nothing follows it.
-ghost use Rattle.std.specs.Prelude.{◌≡◌, ◌+◌, ◌<◌, ◌≤◌, length};
-ghost use Rattle.vectors.specs.Numbers.{InTurn, Onward};
+// The records of the data files, as tests/README.md gives them. Of one that is cut short nothing is made, and nothing follows it.
+ghost use Rattle.std.specs.Prelude.{◌≡◌, ◌+◌, ◌<◌, length, IfSome};
+ghost use Rattle.vectors.specs.Numbers.{two_at, eight_at};
 
 use crate::agree::{file_agrees, listing_agrees, request_agrees, table_agrees};
-use crate::numbers::{eight, two, wide};
-use crate::tally::Ran;
-use requests::Request;
+use crate::tally::{Agreed, Row};
+use requests::{Kind, Request};
 
-// Where the two parts of a record end: the policy, and what the answer comes with.
+// What a record came to: what was agreed on, or nothing where the module and the vector differ; and what follows the record.
 #[derive(Clone, Copy)]
-struct Span {
-    whole: bool,
-    middle: usize,
-    end: usize,
+pub struct Ran<'a> {
+    pub agreed: Option<Agreed>,
+    pub rest: &'a [u8],
 }
 
-fn cut_short(s: &[u8]) -> Ran
-    ensures { (result.end ≡ length s.now) × (result.row < 12) }
+// A number of two bytes, lowest first, and what follows it.
+fn short(s: &[u8]) -> Option<(u16, &[u8])>
+    ensures { IfSome result (λ r. (r.0 ≡ two_at s.now 0) × (length r.1.now + 2 ≡ length s.now)) }
 {
-    Ran {
-        agrees: false,
-        row: 0,
-        outcome: 0,
-        place: 0,
-        end: s.len(),
-    }
+    let (bytes, rest) = s.split_first_chunk::<2>()?;
+    Some((u16::from_le_bytes(*bytes), rest))
 }
 
-// Parts of n and m bytes from `start` on; where they do not fit, both end with the input.
-fn parts_from(s: &[u8], start: usize, n: u64, m: u64) -> Span
-    requires { start ≤ length s.now }
-    ensures { InTurn start result.middle result.end (length s.now) }
+// The same of eight bytes.
+fn long(s: &[u8]) -> Option<(u64, &[u8])>
+    ensures { IfSome result (λ r. (r.0 ≡ eight_at s.now 0) × (length r.1.now + 8 ≡ length s.now)) }
 {
-    let all = s.len();
-    if ((all - start) as u64) < n {
-        return Span {
-            whole: false,
-            middle: all,
-            end: all,
-        };
-    }
-    let middle = start + n as usize;
-    if ((all - middle) as u64) < m {
-        return Span {
-            whole: false,
-            middle: all,
-            end: all,
-        };
-    }
-    let end = middle + m as usize;
-    Span {
-        whole: true,
-        middle,
-        end,
-    }
+    let (bytes, rest) = s.split_first_chunk::<8>()?;
+    Some((u64::from_le_bytes(*bytes), rest))
 }
 
 // Input length (2), outcome (1), place (2), the input.
-pub fn file_at(s: &[u8], at: usize) -> Ran
-    requires { at < length s.now }
-    ensures { Onward at result.end (length s.now) × (result.row < 12) }
+fn run_file(s: &[u8]) -> Option<Ran<'_>>
+    ensures { IfSome result (λ r. length r.rest.now < length s.now) }
 {
-    if s.len() - at < 5 {
-        return cut_short(s);
-    }
-    let start = at + 5;
-    let r = parts_from(s, start, two(s, at), 0);
-    if !r.whole {
-        return cut_short(s);
-    }
-    let end = r.middle;
-    let outcome = wide(s[at + 2]);
-    let place = two(s, at + 3);
-    let agrees = file_agrees(&s[start..end], outcome + 65536 * place);
-    Ran {
-        agrees,
-        row: 0,
+    let (n, s) = short(s)?;
+    let (outcome, s) = s.split_first()?;
+    let (place, s) = short(s)?;
+    let (input, rest) = s.split_at_checked(n as usize)?;
+    let (outcome, place) = (u64::from(*outcome), u64::from(place));
+    let agreed = Agreed {
+        row: Row::File,
         outcome,
-        place,
-        end,
+        place: Some(place),
+    };
+    let agrees = file_agrees(input, outcome + 65536 * place);
+    Some(Ran {
+        agreed: agrees.then_some(agreed),
+        rest,
+    })
+}
+
+fn row_of(kind: u64) -> Row {
+    match Kind::try_from(kind) {
+        Ok(kind) => Row::Request(kind),
+        Err(_) => Row::UnknownKind,
     }
 }
 
-fn request_of(s: &[u8], at: usize) -> Request
-    requires { at + 32 ≤ length s.now }
+// The request of four numbers, and what follows them.
+fn request_of(s: &[u8]) -> Option<(Request, &[u8])>
+    ensures { IfSome result (λ r. length r.1.now + 32 ≡ length s.now) }
 {
-    Request {
-        officer: eight(s, at),
-        kind: eight(s, at + 8),
-        a: eight(s, at + 16),
-        b: eight(s, at + 24),
-    }
-}
-
-fn row_of(kind: u64) -> usize
-    ensures { result < 12 }
-{
-    if kind < 1 {
-        return 9;
-    }
-    if 8 < kind {
-        return 9;
-    }
-    kind as usize
+    let (officer, s) = long(s)?;
+    let (kind, s) = long(s)?;
+    let (a, s) = long(s)?;
+    let (b, s) = long(s)?;
+    Some((
+        Request {
+            officer,
+            kind,
+            a,
+            b,
+        },
+        s,
+    ))
 }
 
 // Policy length (2), officer, kind, a, b (8 each), answer (8), the policy, the new file.
-pub fn request_at(s: &[u8], at: usize) -> Ran
-    requires { at < length s.now }
-    ensures { Onward at result.end (length s.now) × (result.row < 12) }
+fn run_request(s: &[u8]) -> Option<Ran<'_>>
+    ensures { IfSome result (λ r. length r.rest.now < length s.now) }
 {
-    if s.len() - at < 42 {
-        return cut_short(s);
-    }
-    let start = at + 42;
-    let answer = eight(s, at + 34);
-    let r = parts_from(s, start, two(s, at), answer / 4294967296);
-    if !r.whole {
-        return cut_short(s);
-    }
-    let middle = r.middle;
-    let end = r.end;
-    let q = request_of(s, at + 2);
-    let agrees = request_agrees(&s[start..middle], q, answer, &s[middle..end]);
-    Ran {
-        agrees,
+    let (n, s) = short(s)?;
+    let (q, s) = request_of(s)?;
+    let (answer, s) = long(s)?;
+    let (policy, s) = s.split_at_checked(n as usize)?;
+    let (file, rest) = s.split_at_checked((answer / 4294967296) as usize)?;
+    let agreed = Agreed {
         row: row_of(q.kind),
         outcome: answer % 256,
-        place: 0,
-        end,
-    }
+        place: None,
+    };
+    let agrees = request_agrees(policy, q, answer, file);
+    Some(Ran {
+        agreed: agrees.then_some(agreed),
+        rest,
+    })
 }
 
 // Policy length (2), officer (8), answer (8), the policy, three bytes for each entry.
-pub fn listing_at(s: &[u8], at: usize) -> Ran
-    requires { at < length s.now }
-    ensures { Onward at result.end (length s.now) × (result.row < 12) }
+fn run_listing(s: &[u8]) -> Option<Ran<'_>>
+    ensures { IfSome result (λ r. length r.rest.now < length s.now) }
 {
-    if s.len() - at < 18 {
-        return cut_short(s);
-    }
-    let start = at + 18;
-    let answer = eight(s, at + 10);
-    let r = parts_from(s, start, two(s, at), 3 * (answer / 4294967296));
-    if !r.whole {
-        return cut_short(s);
-    }
-    let middle = r.middle;
-    let end = r.end;
-    let agrees = listing_agrees(&s[start..middle], eight(s, at + 2), answer, &s[middle..end]);
-    Ran {
-        agrees,
-        row: 10,
+    let (n, s) = short(s)?;
+    let (officer, s) = long(s)?;
+    let (answer, s) = long(s)?;
+    let (policy, s) = s.split_at_checked(n as usize)?;
+    let (entries, rest) = s.split_at_checked(3 * (answer / 4294967296) as usize)?;
+    let agreed = Agreed {
+        row: Row::Listing,
         outcome: answer % 256,
-        place: 0,
-        end,
-    }
+        place: None,
+    };
+    let agrees = listing_agrees(policy, officer, answer, entries);
+    Some(Ran {
+        agreed: agrees.then_some(agreed),
+        rest,
+    })
 }
 
 // Policy length (2), table (8), answer (8), the policy.
-pub fn table_at(s: &[u8], at: usize) -> Ran
-    requires { at < length s.now }
-    ensures { Onward at result.end (length s.now) × (result.row < 12) }
+fn run_table(s: &[u8]) -> Option<Ran<'_>>
+    ensures { IfSome result (λ r. length r.rest.now < length s.now) }
 {
-    if s.len() - at < 18 {
-        return cut_short(s);
-    }
-    let start = at + 18;
-    let answer = eight(s, at + 10);
-    let r = parts_from(s, start, two(s, at), 0);
-    if !r.whole {
-        return cut_short(s);
-    }
-    let end = r.middle;
-    let agrees = table_agrees(&s[start..end], eight(s, at + 2), answer);
-    Ran {
-        agrees,
-        row: 11,
+    let (n, s) = short(s)?;
+    let (table, s) = long(s)?;
+    let (answer, s) = long(s)?;
+    let (policy, rest) = s.split_at_checked(n as usize)?;
+    let agreed = Agreed {
+        row: Row::Table,
         outcome: answer % 256,
-        place: 0,
-        end,
+        place: None,
+    };
+    let agrees = table_agrees(policy, table, answer);
+    Some(Ran {
+        agreed: agrees.then_some(agreed),
+        rest,
+    })
+}
+
+// The data files, each of records of its own.
+#[derive(Clone, Copy)]
+pub enum Records {
+    Files,
+    Requests,
+    Listings,
+    Tables,
+}
+
+impl Records {
+    pub fn file_name(self) -> &'static str {
+        match self {
+            Records::Files => "files.bin",
+            Records::Requests => "requests.bin",
+            Records::Listings => "listings.bin",
+            Records::Tables => "tables.bin",
+        }
+    }
+
+    // Runs the first record.
+    pub fn run(self, s: &[u8]) -> Option<Ran<'_>>
+        ensures { IfSome result (λ r. length r.rest.now < length s.now) }
+    {
+        match self {
+            Records::Files => run_file(s),
+            Records::Requests => run_request(s),
+            Records::Listings => run_listing(s),
+            Records::Tables => run_table(s),
+        }
     }
 }

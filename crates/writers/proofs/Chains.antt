@@ -79,3 +79,21 @@ module _ {a : List ℕ} {at : ℕ} {o : List ℕ} {mid : ℕ} {m : List ℕ} (w 
         place = omega (arith, v.place);
         bytes = rw v.bytes (rest_sets m mid b refl);
       })
+
+-- what follows of writings one after the other, for a search
+pub ruleset chains = (
+  room_first,
+  room_next,
+  room_as,
+  wrote_none,
+  wrote_as,
+  wrote_next,
+  wrote_long,
+  wrote_inside,
+  put_fits,
+  put_wrote,
+  wrote_each,
+  rest-inside,
+  room_rest,
+  wrote_rest,
+)

@@ -37,10 +37,8 @@ pub fn write_order(out: &mut [u8], at: usize, o: Order) -> usize
     ensures { Wrote (order_bytes o) at out.old result out.new }
 {
     let mut place = put_number(out, at, o.used);
-    let mut a = 0;
-    while a < 64 {
+    for a in 0..64 {
         place = write_juniors(out, place, o.used, a, o.juniors[a]);
-        a = a + 1;
     }
     place
 }
@@ -57,12 +55,9 @@ pub fn write_users(out: &mut [u8], at: usize, p: People) -> usize
     requires { (p.users.count ≤ 256) × Room (users_bytes p) at out.old }
     ensures { Wrote (users_bytes p) at out.old result out.new }
 {
-    let users = p.users;
-    let mut place = put_number(out, at, users.count as u64);
-    let mut i = 0;
-    while i < users.count {
-        place = write_user(out, place, users.roles[i], p.offices[i]);
-        i = i + 1;
+    let mut place = put_number(out, at, p.users.count as u64);
+    for i in 0..p.users.count {
+        place = write_user(out, place, p.users.roles[i], p.offices[i]);
     }
     place
 }
@@ -72,10 +67,8 @@ pub fn write_permissions(out: &mut [u8], at: usize, m: Members) -> usize
     ensures { Wrote (permissions_bytes m) at out.old result out.new }
 {
     let mut place = put_number(out, at, m.count as u64);
-    let mut i = 0;
-    while i < m.count {
-        place = put_number(out, place, m.roles[i]);
-        i = i + 1;
+    for roles in &m.roles[..m.count] {
+        place = put_number(out, place, *roles);
     }
     place
 }
@@ -96,12 +89,12 @@ fn write_row(out: &mut [u8], at: usize, assign: bool, row: Row) -> usize
 {
     let a = write_ends(out, at, row.admin, row.low, row.high);
     let b = put_number(out, a, row.brackets as u64);
-    let no_sets = !assign;
-    if no_sets {
-        return b;
+    if assign {
+        let c = put_number(out, b, row.needed);
+        put_number(out, c, row.barred)
+    } else {
+        b
     }
-    let c = put_number(out, b, row.needed);
-    put_number(out, c, row.barred)
 }
 
 // A table's rows, from the start of what it is lent.
@@ -110,10 +103,8 @@ pub fn write_rows(out: &mut [u8], assign: bool, t: Table) -> usize
     ensures { Wrote (rows_bytes assign t) 0 out.old result out.new }
 {
     let mut place = put_number(out, 0, t.count as u64);
-    let mut i = 0;
-    while i < t.count {
-        place = write_row(out, place, assign, t.rows[i]);
-        i = i + 1;
+    for row in &t.rows[..t.count] {
+        place = write_row(out, place, assign, *row);
     }
     place
 }
@@ -123,11 +114,8 @@ pub fn write_ranges(out: &mut [u8], m: Ranges) -> usize
     ensures { Wrote (ranges_bytes m) 0 out.old result out.new }
 {
     let mut place = put_number(out, 0, m.count as u64);
-    let mut i = 0;
-    while i < m.count {
-        let row = m.rows[i];
+    for row in &m.rows[..m.count] {
         place = write_ends(out, place, row.admin, row.low, row.high);
-        i = i + 1;
     }
     place
 }

@@ -10,6 +10,7 @@ use borrow.Author.Tests.{lt-ltb, le-ltb, ltb-true, ltb-false}
 use lib.Dec.{ltb}
 use lib.ListN.{length, get_or}
 use lib.Seq.{sets, length-sets}
+use Rattle.std.specs.Prelude.{Result, Ok, Err}
 use Rattle.sets.proofs.Digits.{lt_or_le}
 use Rattle.policy.specs.declared.Policy.{Policy}
 use Rattle.policy.specs.Good.{Good}
@@ -17,8 +18,8 @@ use Rattle.number.proofs.Parts.{stands_byte}
 use Rattle.number.proofs.Stores.{sets_stands, sets_after}
 use Rattle.layout.specs.Layout.{policy_bytes}
 use Rattle.layout.proofs.Most.{always_enough}
-use Rattle.writing.specs.declared.Written.{Written}
-use Rattle.writing.specs.declared.Written.TheVariants.{TooShort, Length}
+use Rattle.policy.specs.declared.Refusal.{Refusal}
+use Rattle.policy.specs.declared.Refusal.TheVariants.{BufferTooShort}
 use Rattle.writers.specs.Writers.{Room, Wrote}
 use Rattle.writing.specs.Writing.{Output, written_outcome, written_length, too_short, answer_of, bytes_after}
 
@@ -26,7 +27,7 @@ module _ (p : Policy) (o : List ℕ) where
   -- ---- the two ways
 
   -- the buffer is shorter: 10, and nothing is written
-  pub short_answer : length o < length (policy_bytes p) → answer_of p o ≡ TooShort
+  pub short_answer : length o < length (policy_bytes p) → answer_of p o ≡ Err BufferTooShort
   unfolding answer_of too_short
   short_answer h = rw (lt-ltb (length o) (length (policy_bytes p)) h)
 
@@ -35,7 +36,7 @@ module _ (p : Policy) (o : List ℕ) where
   short_bytes h = rw (lt-ltb (length o) (length (policy_bytes p)) h)
 
   -- it is not: the length, and the file from the start on
-  pub long_answer : length (policy_bytes p) ≤ length o → answer_of p o ≡ Length (length (policy_bytes p))
+  pub long_answer : length (policy_bytes p) ≤ length o → answer_of p o ≡ Ok (length (policy_bytes p))
   unfolding answer_of too_short
   long_answer h = rw (le-ltb (length o) (length (policy_bytes p)) h)
 
@@ -46,7 +47,7 @@ module _ (p : Policy) (o : List ℕ) where
   -- ---- as the code goes them
 
   module _ {short : Bool} (e : short ≡ ltb (length o) (length (policy_bytes p))) where
-    pub output_short : short ≡ true → Output p o TooShort o
+    pub output_short : short ≡ true → Output p o (Err BufferTooShort) o
     output_short h =
         let l = ltb-true (length o) (length (policy_bytes p)) (sym e ∙ h) in
         record { answer = sym (short_answer l); bytes = sym (short_bytes l) }
@@ -58,20 +59,20 @@ module _ (p : Policy) (o : List ℕ) where
       pub room_for : Room (policy_bytes p) 0 o
       room_for = record { fits = omega (arith, fits) }
 
-      pub output_long : {past : ℕ} {m : List ℕ} → Wrote (policy_bytes p) 0 o past m → Output p o (Length past) m
+      pub output_long : {past : ℕ} {m : List ℕ} → Wrote (policy_bytes p) 0 o past m → Output p o (Ok past) m
       output_long {past} w =
           let q : past ≡ length (policy_bytes p) = omega (arith, w.place) in
-          record { answer = ap Length q ∙ sym (long_answer fits); bytes = w.bytes ∙ sym (long_bytes fits) }
+          record { answer = ap Ok q ∙ sym (long_answer fits); bytes = w.bytes ∙ sym (long_bytes fits) }
 
   -- ---- The answer and every byte follow from the inputs: two that meet the contract are equal.
-  pub output_one : {r s : Written} {a b : List ℕ} → Output p o r a → Output p o s b → (r ≡ s) × (a ≡ b)
+  pub output_one : {r s : Result ℕ Refusal} {a b : List ℕ} → Output p o r a → Output p o s b → (r ≡ s) × (a ≡ b)
   output_one x y = (x.answer ∙ sym y.answer, x.bytes ∙ sym y.bytes)
 
-  module _ {r : Written} {a : List ℕ} (x : Output p o r a) where
-    short_way : length o < length (policy_bytes p) → (r ≡ TooShort) × (a ≡ o)
+  module _ {r : Result ℕ Refusal} {a : List ℕ} (x : Output p o r a) where
+    short_way : length o < length (policy_bytes p) → (r ≡ Err BufferTooShort) × (a ≡ o)
     short_way h = (x.answer ∙ short_answer h, x.bytes ∙ short_bytes h)
 
-    long_way : length (policy_bytes p) ≤ length o → (r ≡ Length (length (policy_bytes p))) × (a ≡ sets o 0 (policy_bytes p))
+    long_way : length (policy_bytes p) ≤ length o → (r ≡ Ok (length (policy_bytes p))) × (a ≡ sets o 0 (policy_bytes p))
     long_way h = (x.answer ∙ long_answer h, x.bytes ∙ long_bytes h)
 
     -- ---- "The writer refuses with 10 exactly if the buffer is shorter than the file"

@@ -9,17 +9,8 @@ ghost use Rattle.writing.specs.Writing.{Output};
 
 use layout::file_length;
 use order::Order;
-use policy::{Members, People, Policy, Ranges, Tables};
+use policy::{Members, People, Policy, Ranges, Refusal, Tables};
 use writers::{put_number, write_order, write_permissions, write_ranges, write_rows, write_users};
-
-// The writer's answer.
-#[derive(Clone, Copy)]
-pub enum Written {
-    // The buffer is shorter than the file: number 10.
-    TooShort,
-    // How many bytes the file has.
-    Length(usize),
-}
 
 // The five tables: each is lent the rest of the buffer, from where the table before it ends.
 fn write_tables(out: &mut [u8], t: Tables, m: Ranges) -> usize
@@ -59,22 +50,24 @@ fn is_short(p: Policy, room: usize) -> bool
     requires { Good p }
     ensures { result ≡ ltb room (length (policy_bytes p)) }
 {
-    if ENOUGH <= room {
-        return false;
-    }
-    room < file_length(p)
+    room < ENOUGH && room < file_length(p)
 }
 
-// Writes the file of a policy from the start of the buffer, and nothing where it does not fit.
-pub fn write_policy(p: Policy, out: &mut [u8]) -> Written
+// Writes the file of a policy from the start of the buffer, and gives how many bytes it has. Where it does not fit, nothing is written.
+pub fn write_policy(p: Policy, out: &mut [u8]) -> Result<usize, Refusal>
     requires { Good p }
     ensures { Output p out.old result out.new }
 {
     if is_short(p, out.len()) {
-        return Written::TooShort;
+        return Err(Refusal::BufferTooShort);
     }
-    let orders = p.orders;
-    let at = write_sections(out, orders.roles, orders.admins, p.people, p.permissions);
+    let at = write_sections(
+        out,
+        p.orders.roles,
+        p.orders.admins,
+        p.people,
+        p.permissions,
+    );
     let past = at + write_tables(&mut out[at..], p.tables, p.modify);
-    Written::Length(past)
+    Ok(past)
 }

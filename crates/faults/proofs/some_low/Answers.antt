@@ -1,7 +1,8 @@
 -- Assumes nothing.
-use mathlib.Core.Path.{◌∙◌}
-use Rattle.faults.proofs.Laws.{low_found}
+use Rattle.ranges.specs.Rows.{row_fails}
+use Rattle.faults.specs.Faults.{some_low}
 use Rattle.faults.proofs.some_low.Goals as goal
 
 pub returns : goal.returns
-returns c = c.some_fails.ensures ∙ low_found _ _
+unfolding row_fails some_low
+returns c = c.some_fails.ensures

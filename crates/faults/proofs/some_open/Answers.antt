@@ -1,7 +1,8 @@
 -- Assumes nothing.
-use mathlib.Core.Path.{◌∙◌}
-use Rattle.faults.proofs.Laws.{open_found}
+use Rattle.ranges.specs.Rows.{row_fails}
+use Rattle.faults.specs.Faults.{some_open}
 use Rattle.faults.proofs.some_open.Goals as goal
 
 pub returns : goal.returns
-returns c = c.some_fails.ensures ∙ open_found _ _
+unfolding row_fails some_open
+returns c = c.some_fails.ensures

@@ -1,27 +1,26 @@
 -- Assumes nothing.
-use mathlib.Core.Path.{refl, sym, ◌∙◌}
-use Rattle.policy.proofs.Changes.{unchanged-answer, reordered-answer}
+use mathlib.Core.Path.{refl, sym}
+use Rattle.std.proofs.lemmas.Result.{err_from_is_err_and}
+use Rattle.hierarchy.specs.Rules.{site}
+use Rattle.hierarchy.proofs.Accepted.{cut_fits}
 use Rattle.hierarchy.proofs.Laws.{site_sound}
-use Rattle.hierarchy.proofs.Accepted.{cut_fits, site-size}
 use Rattle.hierarchy.proofs.Answers.{cut-refused, cut-accepted}
 use borrow.Author.Rules.{rules}
 use Rattle.hierarchy.proofs.delete_edge.Goals as goal
 
-pub ground_of-requires : goal.ground_of-requires
-ground_of-requires c = λ e. site_sound _ _ c.site_of-site.ensures (c.requires.1 e)
+pub of-requires : goal.of-requires
+of-requires c = (c.requires.0.modify, λ e. site_sound c.args.p.now c.args.o refl (c.requires.1 e))
 
-pub cut_outcome-outcome-requires : goal.cut_outcome-outcome-requires
-cut_outcome-outcome-requires c = (site-size _ _ c.site_of-site.ensures c.requires.0.modify, c.ground_of.ensures)
-
-pub returns-then-outcome-ne0 : goal.returns-then-outcome-ne0
-returns-then-outcome-ne0 c =
-    unchanged-answer _ _ c.unchanged.ensures c.if-outcome-ne0.true
-    ∙ cut-refused _ _ _ _ c.site_of-site.ensures c.cut_outcome-outcome.ensures c.if-outcome-ne0.true
+pub returns-in_err-cut_outcome : goal.returns-in_err-cut_outcome
+returns-in_err-cut_outcome c =
+    let given = err_from_is_err_and c.from_residual.result c.from_residual.ensures.1 in
+    rw (given.1, given.2) (cut-refused _ _ _ _ c.of.ensures _ c.in_err-cut_outcome.ensures)
 
 pub cut_edge-requires : goal.cut_edge-requires
-cut_edge-requires c = cut_fits _ (search rules) _ _ (sym c.cut_outcome-outcome.ensures ∙ c.if-outcome-ne0.false)
+unfolding site
+cut_edge-requires c =
+    let accepted = rw c.of.ensures at c.in_ok-cut_outcome.ensures in
+    cut_fits (site c.args.p.now c.args.o) (search rules) _ _ (sym accepted)
 
 pub returns : goal.returns
-returns c =
-    reordered-answer _ _ c.reordered.ensures
-    ∙ cut-accepted _ _ _ _ c.site_of-site.ensures c.cut_outcome-outcome.ensures c.if-outcome-ne0.false c.cut_edge.ensures refl
+returns c = cut-accepted _ _ _ _ c.of.ensures c.in_ok-cut_outcome.ensures c.cut_edge.ensures

@@ -1,27 +1,26 @@
 -- Assumes nothing.
-use mathlib.Core.Path.{refl, sym, ◌∙◌}
-use Rattle.policy.proofs.Changes.{unchanged-answer, reordered-answer}
+use mathlib.Core.Path.{refl, sym}
+use Rattle.std.proofs.lemmas.Result.{err_from_is_err_and}
+use Rattle.hierarchy.specs.Rules.{site}
+use Rattle.hierarchy.proofs.Accepted.{insert_fits}
 use Rattle.hierarchy.proofs.Laws.{site_sound}
-use Rattle.hierarchy.proofs.Accepted.{insert_fits, site-size}
 use Rattle.hierarchy.proofs.Answers.{insert-refused, insert-accepted}
 use borrow.Author.Rules.{rules}
 use Rattle.hierarchy.proofs.insert_edge.Goals as goal
 
-pub ground_of-requires : goal.ground_of-requires
-ground_of-requires c = λ e. site_sound _ _ c.site_of-site.ensures (c.requires.1 e)
+pub of-requires : goal.of-requires
+of-requires c = (c.requires.0.modify, λ e. site_sound c.args.p.now c.args.o refl (c.requires.1 e))
 
-pub insert_outcome-outcome-requires : goal.insert_outcome-outcome-requires
-insert_outcome-outcome-requires c = (site-size _ _ c.site_of-site.ensures c.requires.0.modify, c.ground_of.ensures)
-
-pub returns-then-outcome-ne0 : goal.returns-then-outcome-ne0
-returns-then-outcome-ne0 c =
-    unchanged-answer _ _ c.unchanged.ensures c.if-outcome-ne0.true
-    ∙ insert-refused _ _ _ _ c.site_of-site.ensures c.insert_outcome-outcome.ensures c.if-outcome-ne0.true
+pub returns-in_err-insert_outcome : goal.returns-in_err-insert_outcome
+returns-in_err-insert_outcome c =
+    let given = err_from_is_err_and c.from_residual.result c.from_residual.ensures.1 in
+    rw (given.1, given.2) (insert-refused _ _ _ _ c.of.ensures _ c.in_err-insert_outcome.ensures)
 
 pub insert-requires : goal.insert-requires
-insert-requires c = insert_fits _ (search rules) _ _ (sym c.insert_outcome-outcome.ensures ∙ c.if-outcome-ne0.false)
+unfolding site
+insert-requires c =
+    let accepted = rw c.of.ensures at c.in_ok-insert_outcome.ensures in
+    insert_fits (site c.args.p.now c.args.o) (search rules) _ _ (sym accepted)
 
 pub returns : goal.returns
-returns c =
-    reordered-answer _ _ c.reordered.ensures
-    ∙ insert-accepted _ _ _ _ c.site_of-site.ensures c.insert_outcome-outcome.ensures c.if-outcome-ne0.false c.insert.ensures refl
+returns c = insert-accepted _ _ _ _ c.of.ensures c.in_ok-insert_outcome.ensures c.insert.ensures

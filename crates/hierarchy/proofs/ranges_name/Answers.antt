@@ -1,19 +1,20 @@
-use mathlib.Core.Path.{sym, ◌∙◌}
-use Rattle.sets.proofs.Loops.{none_begin, none_turn, found_any, none_any}
-use Rattle.hierarchy.specs.Rules.{ranges_name}
+use mathlib.Core.Path.{◌∙◌}
+use lib.Dec.{eqb}
+use lib.ListN.{take}
+use Rattle.std.proofs.lemmas.Iterator.{YieldsList-from_slice}
+use Rattle.std.proofs.lemmas.Iterator.Search.{any_from_yields_List}
 use borrow.Author.Rules.{rules}
+use Rattle.sets.specs.Tests.{◌or◌}
+use Rattle.ranges.specs.declared.ModifyRow.{ModifyRow}
+use Rattle.ranges.specs.Rows.{no_row}
+use Rattle.hierarchy.specs.Rules.{ranges_name}
+use Rattle.policy.proofs.Rows.{any_front}
 use Rattle.hierarchy.proofs.ranges_name.Goals as goal
-
-pub loop-i-init : goal.loop-i-init
-loop-i-init c = (search rules, search rules, none_begin _)
-
-pub returns-then-range_names : goal.returns-then-range_names
-unfolding ranges_name
-returns-then-range_names c = found_any _ _ c.loop-i.i (search rules) (sym c.range_names.ensures ∙ c.if-range_names.true)
-
-pub loop-i-preserved : goal.loop-i-preserved
-loop-i-preserved c = (search rules, search rules, none_turn _ _ c.loop-i.invariant.2 (sym c.range_names.ensures ∙ c.if-range_names.false))
 
 pub returns : goal.returns
 unfolding ranges_name
-returns c = none_any _ _ _ c.loop-i-test.false c.loop-i.invariant.2
+returns c =
+    let m = c.args.modify.now in
+    any_from_yields_List (λ (row : ModifyRow). eqb c.args.a row.low.0 or eqb c.args.a row.high.0) _ _ _ c.any.ensures.ran
+    (YieldsList-from_slice (take m.count m.rows) cc) (λ x b q k. search rules)
+    ∙ any_front _ m.rows no_row m.count c.in_use.ensures.1

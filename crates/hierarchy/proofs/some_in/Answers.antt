@@ -1,19 +1,19 @@
-use mathlib.Core.Path.{sym, ◌∙◌}
-use Rattle.sets.proofs.Loops.{none_begin, none_turn, found_any, none_any}
-use Rattle.hierarchy.specs.Rules.{some_in}
+use mathlib.Core.Path.{◌∙◌}
+use Prim.Native.Nat.{ℕ}
+use native.Mathlib.Omega.{arith}
+use lib.ListN.{take}
+use Rattle.std.proofs.lemmas.Iterator.{YieldsList-from_slice}
+use Rattle.std.proofs.lemmas.Iterator.Search.{any_from_yields_List}
 use borrow.Author.Rules.{rules}
+use Rattle.sets.specs.Sets.{has}
+use Rattle.hierarchy.specs.Rules.{some_in}
+use Rattle.policy.proofs.Rows.{any_front}
 use Rattle.hierarchy.proofs.some_in.Goals as goal
-
-pub loop-u-init : goal.loop-u-init
-loop-u-init c = (search rules, search rules, none_begin _)
-
-pub returns-then-contains : goal.returns-then-contains
-unfolding some_in
-returns-then-contains c = found_any _ _ c.loop-u.u (search rules) (sym c.contains.ensures ∙ c.if-contains.true)
-
-pub loop-u-preserved : goal.loop-u-preserved
-loop-u-preserved c = (search rules, search rules, none_turn _ _ c.loop-u.invariant.2 (sym c.contains.ensures ∙ c.if-contains.false))
 
 pub returns : goal.returns
 unfolding some_in
-returns c = none_any _ _ _ c.loop-u-test.false c.loop-u.invariant.2
+returns c =
+    let m = c.args.members.now in
+    any_from_yields_List (λ (s : ℕ). has s c.args.a) _ _ _ c.any.ensures.ran
+    (YieldsList-from_slice (take m.count m.roles) cc) (λ x b q k. search rules)
+    ∙ any_front _ m.roles 0 m.count (omega arith)

@@ -1,4 +1,3 @@
-use Prim.Native.Nat.{◌-◌}
 use lib.ListN.{get_or}
 use Rattle.layout.specs.Layout.{juniors_bytes}
 use Rattle.layout.proofs.Counts.{Counting}
@@ -6,6 +5,3 @@ use Rattle.layout.proofs.order_length.Given as goal
 
 abbrev pub invariant-loop-a : goal.invariant-loop-a
 invariant-loop-a l = Counting (λ i. juniors_bytes l.o.used i (get_or l.o.juniors i 0)) 64 l.initial.n l.a l.n
-
-abbrev pub decreases-loop-a : goal.decreases-loop-a
-decreases-loop-a l = 64 - l.a

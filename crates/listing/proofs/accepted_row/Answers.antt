@@ -1,9 +1,12 @@
 -- Assumes nothing.
-use mathlib.Core.Path.{sym, ◌∙◌}
-use Rattle.listing.proofs.accepted_row.Goals.{then-outcome-eq0, else-outcome-eq0}
-use borrow.Author.Tests.{eq-eqb, ne_eqb, eqb-true}
+use mathlib.Core.Path.{sym, ap, ◌∙◌}
+use Prim.Native.Nat.{ℕ}
+use Rattle.listing.proofs.accepted_row.Goals.{then-is_ok, else-is_ok}
+use lib.Dec.{eqb}
+use borrow.Author.Tests.{eqb-true}
 use Rattle.order.proofs.Loops.{left_lowest}
-use Rattle.listing.specs.Sites.{site_outcome}
+use Rattle.policy.proofs.Changes.{outcome-is_ok}
+use Rattle.listing.specs.Sites.{site_set}
 use Rattle.listing.proofs.Sifted.{sift_begin, sift_take, sift_skip, sift_end}
 use borrow.Author.Rules.{rules}
 use Rattle.listing.proofs.accepted_row.Goals as goal
@@ -20,16 +23,17 @@ loop-rest-smaller c = c.without_lowest-rest.ensures.0
 pub loop-rest-preserved : goal.loop-rest-preserved
 loop-rest-preserved c =
     let inv = c.loop-rest.invariant in
-    let e = c.site_outcome-outcome.ensures in
-    let taken = c.without_lowest-rest.ensures.1 in
     let low = c.lowest-b.ensures in
-    elim c.if-outcome-eq0.branch [
-      | then-outcome-eq0 w ↦
-          rw w.row-is
-          (sift_take _ _ _ _ _ _ inv taken _ (rw low at w.with-row.ensures) (rw low at (eq-eqb _ 0 (sym e ∙ w.if-outcome-eq0.true))))
-      | else-outcome-eq0 w ↦
-          rw w.row-is (sift_skip _ _ _ _ _ _ inv taken (rw low at (ne_eqb _ 0 (λ q. w.if-outcome-eq0.false (e ∙ q)))))
+    let e = rw (c.kind_at-kind.ensures, low) at c.site_outcome-outcome.ensures in
+    let tested = ap (λ (n : ℕ). eqb n 0) (sym e) ∙ outcome-is_ok _ ∙ sym c.is_ok.ensures.value in
+    let taken = c.without_lowest-rest.ensures.1 in
+    elim c.if-is_ok.branch [
+      | then-is_ok w ↦ rw w.row-is (sift_take _ _ _ _ _ _ inv taken _ (rw low at w.with-row.ensures) (tested ∙ w.if-is_ok.true))
+      | else-is_ok w ↦ rw w.row-is (sift_skip _ _ _ _ _ _ inv taken (tested ∙ w.if-is_ok.false))
     ]
 
 pub returns : goal.returns
-returns c = sift_end 64 _ _ _ _ c.loop-rest.invariant c.loop-rest-test.false (λ n t. c.to_do-rest.ensures.each n (eqb-true _ 0 t)) (search rules)
+unfolding site_set
+returns c =
+    let tried = rw c.kind_at-kind.ensures at c.to_do-rest.ensures in
+    sift_end 64 _ _ _ _ c.loop-rest.invariant c.loop-rest-test.false (λ n t. tried.each c.args.tied n (eqb-true _ 0 t)) (search rules)

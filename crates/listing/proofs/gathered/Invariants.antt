@@ -1,12 +1,8 @@
 use mathlib.Core.Path.{◌≡◌}
-use Prim.Native.Nat.{◌≤◌, ◌-◌}
-use lib.ListN.{length}
+use Prim.Native.Nat.{ℕ, ◌<◌}
+use lib.ListN.{get_or}
 use Rattle.listing.specs.Sites.{site_set}
-use Rattle.sets.proofs.Loops.{Rewritten}
 use Rattle.listing.proofs.gathered.Given as goal
 
 abbrev pub invariant-loop-j : goal.invariant-loop-j
-invariant-loop-j l = (length l.rows ≡ 256) × (l.j ≤ 256) × Rewritten (λ k v. v ≡ site_set l.site l.tied k) l.initial.rows l.rows l.j
-
-abbrev pub decreases-loop-j : goal.decreases-loop-j
-decreases-loop-j l = 256 - l.j
+invariant-loop-j l = (k : ℕ) → k < l.j → get_or l.row-items k 0 ≡ site_set l.ground.site l.tied k

@@ -12,7 +12,7 @@ loop-i-init c = put_none
 pub put_entry-requires : goal.put_entry-requires
 unfolding in_rows
 put_entry-requires c =
-    put_fits c.args.rows _ _ _ _ c.loop-i.invariant c.loop-i-test.true c.requires
+    put_fits c.args.rows.now _ _ _ _ c.loop-i.invariant c.loop-i-test.true c.requires
     (sym c.has.ensures ∙ c.if-has.true)
 
 pub overflow_add-at : goal.overflow_add-at
@@ -20,7 +20,7 @@ unfolding in_rows
 overflow_add-at c =
     let k = c.loop-i.invariant in
     let passes = sym c.has.ensures ∙ c.if-has.true in
-    omega (arith, k.long, (put_fits c.args.rows _ _ _ _ k c.loop-i-test.true c.requires passes).0)
+    omega (arith, k.long, (put_fits c.args.rows.now _ _ _ _ k c.loop-i-test.true c.requires passes).0)
 
 pub loop-i-preserved : goal.loop-i-preserved
 unfolding in_rows
@@ -30,8 +30,8 @@ loop-i-preserved c =
     let l = c.loop-i-test.true in
     let e = sym c.has.ensures in
     elim c.if-has.branch [
-      | then-has w ↦ rw (w.at-is, w.out-is) (put_one x.rows _ _ _ _ k l (e ∙ w.if-has.true) w.put_entry.ensures)
-      | else-has w ↦ rw (w.at-is, w.out-is) (put_skip x.rows _ _ _ _ k l (e ∙ w.if-has.false))
+      | then-has w ↦ rw (w.at-is, w.out-is) (put_one x.rows.now _ _ _ _ k l (e ∙ w.if-has.true) w.put_entry.ensures)
+      | else-has w ↦ rw (w.at-is, w.out-is) (put_skip x.rows.now _ _ _ _ k l (e ∙ w.if-has.false))
     ]
 
 pub shape_of-out : goal.shape_of-out

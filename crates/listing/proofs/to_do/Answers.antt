@@ -1,14 +1,15 @@
 -- Assumes nothing.
-use mathlib.Core.Path.{refl, sym, ◌∙◌}
-use borrow.Author.Tests.{not-true}
-use Rattle.listing.proofs.Laws.{none_to_do, juniors_to_do, others_to_do}
+use Rattle.listing.proofs.Laws.{none_to_do, juniors_to_do, delete_to_do, insert_to_do}
 use Rattle.listing.proofs.to_do.Goals as goal
 
 pub returns-then-not-has : goal.returns-then-not-has
-returns-then-not-has c = none_to_do _ _ _ (sym c.has.ensures ∙ not-true _ c.if-not-has.true-raw)
+returns-then-not-has c = none_to_do _ _ _ (cc)
 
-pub returns-then-kind-ne7 : goal.returns-then-kind-ne7
-returns-then-kind-ne7 c = juniors_to_do _ _ _ c.if-kind-ne7.true refl
+pub returns-in-CreateRole : goal.returns-in-CreateRole
+returns-in-CreateRole c = juniors_to_do _ _ _ c.in-CreateRole.is
 
-pub returns : goal.returns
-returns c = others_to_do _ _ _ c.if-kind-ne7.false _ c.requires.1 _ _ _ refl c.minus.ensures c.minus-2.ensures
+pub returns-in-DeleteRole : goal.returns-in-DeleteRole
+returns-in-DeleteRole c = rw c.in-DeleteRole.is (delete_to_do _ _)
+
+pub returns-in-InsertEdge : goal.returns-in-InsertEdge
+returns-in-InsertEdge c = rw c.in-InsertEdge.is (insert_to_do _ _ c.args.ground.now.above _ _ c.minus.ensures c.minus-in-InsertEdge.ensures)

@@ -1,10 +1,8 @@
 -- Assumes nothing.
-use mathlib.Core.Path.{ap, ◌∙◌}
-use Rattle.policy.specs.Outcome.{answer}
-use Rattle.policy.specs.Change.{decided}
-use Rattle.policy.specs.declared.Touched.TheVariants.{User}
-use Rattle.members.specs.declared.View.{View}
-use Rattle.members.specs.Rules.{user_view, assigned, assign_user}
+use mathlib.Core.Path.{refl}
+use Rattle.policy.specs.declared.Change.TheVariants.{User}
+use Rattle.members.specs.Rules.{user_view, assign_user}
+use Rattle.members.proofs.Decided.{decided_roles}
 use Rattle.members.proofs.assign_user.Goals as goal
 
 pub assigned-requires : goal.assigned-requires
@@ -12,8 +10,5 @@ unfolding user_view
 assigned-requires c = rw c.user_view.ensures c.requires.assign
 
 pub returns : goal.returns
-unfolding decided answer user_view assign_user
-returns c =
-    let x = c.args in
-    ap (decided x.p x.a)
-    (c.assigned.ensures ∙ ap (λ (v : View). assigned User v x.b) c.user_view.ensures)
+unfolding user_view assign_user
+returns c = decided_roles c.args.p.now c.args.a User (λ _. refl) _ _ _ _ (rw c.user_view.ensures at c.assigned.ensures) c.map.ensures.cases

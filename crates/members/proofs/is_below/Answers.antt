@@ -1,10 +1,10 @@
-use mathlib.Core.Path.{sym}
+use mathlib.Core.Path.{sym, ◌∙◌}
 use borrow.Author.Tests.{le-ltb, lt-ltb}
 use Rattle.sets.proofs.Tests.{and_fails_l, and_given}
 use Rattle.members.proofs.is_below.Goals as goal
 
-pub returns-then-officers-o : goal.returns-then-officers-o
-returns-then-officers-o c = sym (and_fails_l _ _ (le-ltb _ _ c.if-officers-o.true))
+pub returns-then-o-officers : goal.returns-then-o-officers
+returns-then-o-officers c = sym (and_given _ _ (lt-ltb _ _ c.if-o-officers.true))
 
-pub returns : goal.returns
-returns c = sym (and_given _ _ (lt-ltb _ _ c.if-officers-o.false))
+pub returns-else-o-officers : goal.returns-else-o-officers
+returns-else-o-officers c = le-ltb _ _ c.if-o-officers.false ∙ sym (and_fails_l _ _ (le-ltb _ _ c.if-o-officers.false))

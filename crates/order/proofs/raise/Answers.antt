@@ -38,8 +38,5 @@ loop-rest-preserved c =
     rw e (raise_turn _ _ _ _ _ _ _ _ inv (search rules) (left_member 64 _ _ inv.left (search rules) (search rules))
     (rw e at c.with.ensures) c.without_lowest-rest.ensures.1)
 
-pub shape_of-above : goal.shape_of-above
-shape_of-above c = omega (arith, c.loop-rest.invariant.long)
-
 pub returns : goal.returns
 returns c = raise_end _ _ _ _ _ c.loop-rest.invariant c.loop-rest-test.false

@@ -1,34 +1,32 @@
 -- Assumes nothing.
-use mathlib.Core.Path.{◌∙◌, ap}
+use mathlib.Core.Path.{◌∙◌, sym, ap}
 use native.Mathlib.Omega.{arith}
-use Rattle.reading.specs.File.{file_at}
-use Rattle.parts.specs.Parts.{refusal_of, part_at}
-use Rattle.reading.proofs.Laws.{file_got, file_lost}
-use Rattle.parts.proofs.Laws.{table_low, table_high, table_is, file_inside}
+use Rattle.parts.specs.Parts.{part_at, as_part, start_of, end_of}
+use Rattle.parts.proofs.Laws.{part_stops, named, file_inside}
 use Rattle.parts.proofs.find_part.Goals as goal
 
-pub returns-then-table-lt-FIRST : goal.returns-then-table-lt-FIRST
+pub returns-in_err-table : goal.returns-in_err-table
 unfolding part_at
-returns-then-table-lt-FIRST c = rw (table_low c.args.table c.if-table-lt-FIRST.true)
+returns-in_err-table c =
+    let e = c.in_err-table.ensures in
+    part_stops _ _ c.from_residual.ensures.1 ∙ rw (e.0, e.1)
 
-pub returns-then-table-gt5 : goal.returns-then-table-gt5
+pub returns-in_err-read_file : goal.returns-in_err-read_file
 unfolding part_at
-returns-then-table-gt5 c = rw (table_high c.args.table c.if-table-gt5.true)
-
-pub returns-in_default : goal.returns-in_default
-unfolding part_at
-returns-in_default c =
-    let x = c.in_default.is in
-    let w = file_lost (file_at _) _ c.read_file-f.ensures x in
-    c.refusal_of.ensures ∙ ap refusal_of x ∙ rw (table_is c.args.table c.if-table-lt-FIRST.false c.if-table-gt5.false, w)
+returns-in_err-read_file c =
+    part_stops _ _ c.from_residual-in_err-read_file.ensures.1 ∙ rw (named _ c.in_ok-table.ensures, c.in_err-read_file.ensures)
 
 pub overflow_sub-result : goal.overflow_sub-result
 overflow_sub-result c =
-    let w = (file_got (file_at _) _ c.read_file-f.ensures c.in-Accepted.is).1 in
-    omega (arith, c.start_of-start.ensures, c.end_of-end.ensures, (file_inside c.args.table w).some)
+    let e = c.ends_of-start.ensures in
+    let i = (file_inside c.args.number c.in_ok-read_file.ensures.1).some in
+    rw (e, c.in_ok-table.ensures) (omega (arith, i))
 
 pub returns : goal.returns
 unfolding part_at
 returns c =
-    let w = (file_got (file_at _) _ c.read_file-f.ensures c.in-Accepted.is).1 in
-    rw (table_is c.args.table c.if-table-lt-FIRST.false c.if-table-gt5.false, w, c.start_of-start.ensures, c.end_of-end.ensures)
+    let n = c.in_ok-table.ensures in
+    let e = rw n at c.ends_of-start.ensures in
+    let t = named _ n in
+    let w = c.in_ok-read_file.ensures.1 in
+    rw (e, t, w)

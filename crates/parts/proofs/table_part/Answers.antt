@@ -2,23 +2,19 @@
 use mathlib.Core.Path.{sym, ◌∙◌}
 use native.Mathlib.Omega.{arith}
 use Rattle.parts.specs.Parts.{part_bytes}
-use Rattle.parts.proofs.Laws.{found_inside}
+use Rattle.parts.proofs.Laws.{found_inside, nothing_found}
 use Rattle.parts.proofs.table_part.Goals as goal
 
-pub returns-in_default : goal.returns-in_default
+pub overflow_add-result : goal.overflow_add-result
+overflow_add-result c = omega (arith, found_inside _ _ (sym c.in-Ok.ensures))
+
+pub slice_bounds-result-end : goal.slice_bounds-result-end
+slice_bounds-result-end c = omega (arith, found_inside _ _ (sym c.in-Ok.ensures))
+
+pub returns-in-Ok : goal.returns-in-Ok
 unfolding part_bytes
-returns-in_default c =
-    let w = sym c.find_part-a.ensures ∙ c.in_default.is in
-    rw w
+returns-in-Ok c = let w = sym c.in-Ok.ensures in rw w
 
-pub overflow_add-end : goal.overflow_add-end
-overflow_add-end c = omega (arith, found_inside _ _ (sym c.find_part-a.ensures ∙ c.in-Found.is))
-
-pub slice_bounds-result-end-2 : goal.slice_bounds-result-end-2
-slice_bounds-result-end-2 c = omega (arith, found_inside _ _ (sym c.find_part-a.ensures ∙ c.in-Found.is))
-
-pub returns : goal.returns
+pub returns-in-Err : goal.returns-in-Err
 unfolding part_bytes
-returns c =
-    let w = sym c.find_part-a.ensures ∙ c.in-Found.is in
-    rw w
+returns-in-Err c = let w = sym c.in-Err.ensures in rw w (nothing_found _ _)

@@ -3,4 +3,4 @@ use Rattle.policy.proofs.empty_policy.Goals as goal
 
 pub returns : goal.returns
 unfolding empty_policy
-returns c = rw (c.empty_ranges-modify.ensures, c.empty_tables-tables.ensures, c.empty_members-members.ensures, c.empty_order-order.ensures)
+returns c = rw (c.empty_ranges.ensures, c.empty_table-table.ensures)

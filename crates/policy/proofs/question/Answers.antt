@@ -1,21 +1,24 @@
-use mathlib.Core.Path.{sym, ap₂, ◌∙◌}
 use borrow.Author.Tests.{le-leb, lt-leb}
 use Rattle.sets.specs.Tests.{◌or◌}
 use Rattle.policy.specs.Question.{may_exercise}
+use Rattle.policy.proofs.question.Goals.{then-p-user-via-then-p-user, then-p-user-via-else-p-user+then-p-permission}
 use Rattle.policy.proofs.question.Goals as goal
 
-pub returns-then-users-user : goal.returns-then-users-user
+pub returns-then-p-user : goal.returns-then-p-user
 unfolding Rattle.policy.specs.Question.question ◌or◌
-returns-then-users-user c = simp (le-leb _ _ c.if-users-user.true)
+returns-then-p-user c =
+    elim c.then-p-user.branch [
+      | then-p-user-via-then-p-user w ↦ simp (le-leb _ _ w.if-p-user.true)
+      | then-p-user-via-else-p-user+then-p-permission w ↦ simp (lt-leb _ _ w.if-p-user.false, le-leb _ _ w.if-p-permission.true)
+    ]
 
-pub returns-then-permissions-permission : goal.returns-then-permissions-permission
+pub returns : goal.returns
 unfolding Rattle.policy.specs.Question.question ◌or◌
-returns-then-permissions-permission c = simp (lt-leb _ _ c.if-users-user.false, le-leb _ _ c.if-permissions-permission.true)
-
-pub returns-then-exercises : goal.returns-then-exercises
-unfolding Rattle.policy.specs.Question.question ◌or◌
-returns-then-exercises c = simp (lt-leb _ _ c.if-users-user.false, lt-leb _ _ c.if-permissions-permission.false, sym (ap₂ (may_exercise _) c.roles_of-held.ensures c.roles_of-granted.ensures) ∙ sym c.exercises.ensures ∙ c.if-exercises.true)
-
-pub returns-else-exercises : goal.returns-else-exercises
-unfolding Rattle.policy.specs.Question.question ◌or◌
-returns-else-exercises c = simp (lt-leb _ _ c.if-users-user.false, lt-leb _ _ c.if-permissions-permission.false, sym (ap₂ (may_exercise _) c.roles_of-held.ensures c.roles_of-granted.ensures) ∙ sym c.exercises.ensures ∙ c.if-exercises.false)
+returns c =
+    simp (
+      lt-leb _ _ c.if-p-user.false,
+      lt-leb _ _ c.if-p-permission.false,
+      c.exercises.ensures,
+      c.set_at-held.ensures,
+      c.set_at-granted.ensures,
+    )

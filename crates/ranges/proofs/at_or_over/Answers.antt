@@ -1,13 +1,18 @@
 use mathlib.Core.Path.{sym, ◌∙◌}
+use mathlib.Core.Logic.{⊎_elim}
+use borrow.Author.Rules.{rules}
 use borrow.Author.Tests.{eq-eqb, ne_eqb}
-use Rattle.sets.proofs.Tests.{or_given, or_l, and_i, and_fails_l, and_fails_r}
+use Rattle.sets.specs.Tests.{◌and◌, ◌or◌}
+use Rattle.sets.proofs.Tests.{or_given, and_fails_l, and_fails_r}
+use Rattle.ranges.proofs.at_or_over.Goals.{then-a-b, else-a-b}
 use Rattle.ranges.proofs.at_or_over.Goals as goal
 
-pub returns-then-a-b : goal.returns-then-a-b
-returns-then-a-b c = c.is_senior.ensures ∙ sym (or_given _ _ (and_fails_l _ _ (ne_eqb _ _ c.if-a-b.true)))
-
 pub returns-then-same : goal.returns-then-same
-returns-then-same c = sym (or_l _ _ (and_i _ _ (eq-eqb _ _ c.if-a-b.false) c.if-same.true))
+unfolding ◌and◌ ◌or◌
+returns-then-same c =
+    let same = c.if-same.true in
+    rw (eq-eqb _ _ same.0, same.1) (elim c.if-a-b.branch [ then-a-b w ↦ search rules | else-a-b w ↦ absurd (w.if-a-b.false same.0) ])
 
-pub returns : goal.returns
-returns c = c.is_senior-2.ensures ∙ sym (or_given _ _ (and_fails_r _ _ c.if-same.false))
+pub returns-else-same : goal.returns-else-same
+returns-else-same c =
+    c.is_senior.ensures ∙ sym (or_given _ _ (⊎_elim (λ h. and_fails_r _ _ h.1) (λ h. and_fails_l _ _ (ne_eqb _ _ h)) c.if-same.either))

@@ -1,23 +1,32 @@
 -- Assumes nothing.
 use mathlib.Core.Path.{sym, ap, ◌∙◌}
 use mathlib.Core.Bool.{not}
-use Rattle.sets.proofs.Tests.{and_fails_l, and_fails_r, and_given, not_neg, neg-neg}
-use Rattle.sets.proofs.Builders.{no_member, some_member, empty_test}
-use Rattle.ranges.specs.Ranges.{overlap_in_part}
 use borrow.Author.Rules.{rules}
+use borrow.Author.Tests.{eq-eqb}
+use Rattle.sets.proofs.Tests.{clash, and_fails_l, and_fails_r, and_given}
+use Rattle.sets.proofs.Builders.{no_member, some_member}
+use Rattle.ranges.specs.Ranges.{overlap_in_part}
+use Rattle.ranges.proofs.Laws.{some_test}
+use Rattle.ranges.proofs.cut_across.Goals.{then-both-ne0, else-both-ne0}
 use Rattle.ranges.proofs.cut_across.Goals as goal
 
-pub returns-then-both-eq0 : goal.returns-then-both-eq0
+pub returns-then-minus-ne0 : goal.returns-then-minus-ne0
 unfolding overlap_in_part
-returns-then-both-eq0 c = sym (and_fails_l _ _ (no_member 64 _ _ (search rules) c.both.ensures c.if-both-eq0.true))
+returns-then-minus-ne0 c =
+    some_test _ _ (search rules) c.minus-then-minus-ne0.ensures
+    ∙ elim c.if-both-ne0.branch [
+      | then-both-ne0 w ↦
+          sym (and_given _ _ (some_member 64 _ _ (search rules) c.both.ensures w.if-both-ne0.true)
+          ∙ and_given _ _ (sym (some_test _ _ (search rules) w.minus.ensures) ∙ sym w.value-is ∙ c.if-minus-ne0.true))
+      | else-both-ne0 w ↦ clash c.if-minus-ne0.true (w.value-is ∙ ap not (eq-eqb _ _ w.if-both-ne0.false))
+    ]
 
-pub returns-then-minus-eq0 : goal.returns-then-minus-eq0
+pub returns-else-minus-ne0 : goal.returns-else-minus-ne0
 unfolding overlap_in_part
-returns-then-minus-eq0 c = sym (and_fails_r _ _ (and_fails_l _ _ (no_member 64 _ _ (search rules) c.minus.ensures c.if-minus-eq0.true)))
-
-pub returns : goal.returns
-unfolding overlap_in_part
-returns c =
-    let shared = some_member 64 _ _ (search rules) c.both.ensures c.if-both-eq0.false in
-    let lacked = some_member 64 _ _ (search rules) c.minus.ensures c.if-minus-eq0.false in
-    ap not (empty_test 64 _ _ (search rules) c.minus-2.ensures) ∙ not_neg _ ∙ neg-neg _ ∙ sym (and_given _ _ shared ∙ and_given _ _ lacked)
+returns-else-minus-ne0 c =
+    c.if-minus-ne0.false
+    ∙ elim c.if-both-ne0.branch [
+      | then-both-ne0 w ↦
+          sym (and_fails_r _ _ (and_fails_l _ _ (sym (some_test _ _ (search rules) w.minus.ensures) ∙ sym w.value-is ∙ c.if-minus-ne0.false)))
+      | else-both-ne0 w ↦ sym (and_fails_l _ _ (no_member 64 _ _ (search rules) c.both.ensures w.if-both-ne0.false))
+    ]

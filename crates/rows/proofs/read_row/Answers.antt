@@ -1,69 +1,57 @@
 -- Assumes nothing.
-use mathlib.Core.Path.{sym, ◌∙◌, ap}
+use mathlib.Core.Path.{sym, ◌∙◌}
 use native.Mathlib.Omega.{arith}
-use borrow.Author.Tests.{not-true, not-false}
-use Rattle.sections.proofs.Answers.{got, lost}
-use Rattle.rows.specs.Rows.{range_at, condition_at, table_row_at, no_table_row}
-use Rattle.sections.proofs.Laws.{refused_by, count_most}
-use Rattle.rows.proofs.Laws.{range_answers}
+use Rattle.number.proofs.Runs.{err_step}
+use Rattle.rows.specs.Rows.{condition_at, table_row_at}
+use Rattle.sections.proofs.Laws.{count_most}
 use Rattle.rows.proofs.read_row.Goals as goal
 
-pub returns-in_default : goal.returns-in_default
+pub returns-in_err-range : goal.returns-in_err-range
 unfolding table_row_at
-returns-in_default c =
-    let e = c.in_default.is in
-    let f = lost range_answers (range_at _ _ _ _) c.read_range-f.ensures e in
-    c.no_row.ensures ∙ ap no_table_row e ∙ rw f
+returns-in_err-range c = let r = sym c.in_err-range.ensures in err_step _ _ c.from_residual.ensures.1 ∙ sym (rw r)
 
-pub returns-in_default-b : goal.returns-in_default-b
+pub returns-in_err-brackets : goal.returns-in_err-brackets
 unfolding table_row_at
-returns-in_default-b c =
-    let e = c.in_default-b.is in
-    let f = got range_answers (range_at _ _ _ _) c.read_range-f.ensures c.in-At.is in
-    let b = sym c.read_count-b.ensures ∙ e in
-    refused_by no_table_row c.no_row-in_default-b.ensures c.ended_by.ensures e ∙ rw (f, b)
+returns-in_err-brackets c =
+    let r = sym c.in_ok-range.ensures in
+    let b = sym c.in_err-brackets.ensures in
+    err_step _ _ c.from_residual-in_err-brackets.ensures.1 ∙ sym (rw (r, b))
 
 pub make_row-requires : goal.make_row-requires
-make_row-requires c = omega (arith, count_most _ _ _ (sym c.read_count-b.ensures ∙ c.in-Value.is))
+make_row-requires c = omega (arith, count_most _ _ _ (sym c.in_ok-brackets.ensures))
 
 pub returns-then-not-assign : goal.returns-then-not-assign
 unfolding table_row_at
 returns-then-not-assign c =
-    let f = got range_answers (range_at _ _ _ _) c.read_range-f.ensures c.in-At.is in
-    let b = sym c.read_count-b.ensures ∙ c.in-Value.is in
-    let n = not-true c.args.assign c.if-not-assign.true-raw in
-    rw (f, b, n, c.make_row.ensures)
+    let r = sym c.in_ok-range.ensures in
+    let b = sym c.in_ok-brackets.ensures in
+    rw (r, b, c.if-not-assign.true, c.make_row.ensures)
 
-pub returns-in_default-n : goal.returns-in_default-n
+pub returns-in_err-needed : goal.returns-in_err-needed
 unfolding table_row_at condition_at
-returns-in_default-n c =
-    let e = c.in_default-n.is in
-    let f = got range_answers (range_at _ _ _ _) c.read_range-f.ensures c.in-At.is in
-    let b = sym c.read_count-b.ensures ∙ c.in-Value.is in
-    let y = not-false c.args.assign c.if-not-assign.false-raw in
-    let n = sym c.read_set-n.ensures ∙ e in
-    refused_by no_table_row c.no_row-in_default-n.ensures c.ended_by-in_default-n.ensures e ∙ rw (f, b, y, n)
+returns-in_err-needed c =
+    let r = sym c.in_ok-range.ensures in
+    let b = sym c.in_ok-brackets.ensures in
+    let n = sym c.in_err-needed.ensures in
+    err_step _ _ c.from_residual-in_err-needed.ensures.1 ∙ sym (rw (r, b, c.if-not-assign.false, n))
 
-pub returns-in_default-z : goal.returns-in_default-z
+pub returns-in_err-barred : goal.returns-in_err-barred
 unfolding table_row_at condition_at
-returns-in_default-z c =
-    let e = c.in_default-z.is in
-    let f = got range_answers (range_at _ _ _ _) c.read_range-f.ensures c.in-At.is in
-    let b = sym c.read_count-b.ensures ∙ c.in-Value.is in
-    let y = not-false c.args.assign c.if-not-assign.false-raw in
-    let n = sym c.read_set-n.ensures ∙ c.in-Value-n.is in
-    let z = sym c.read_set-z.ensures ∙ e in
-    refused_by no_table_row c.no_row-in_default-z.ensures c.ended_by-in_default-z.ensures e ∙ rw (f, b, y, n, z)
+returns-in_err-barred c =
+    let r = sym c.in_ok-range.ensures in
+    let b = sym c.in_ok-brackets.ensures in
+    let n = sym c.in_ok-needed.ensures in
+    let z = sym c.in_err-barred.ensures in
+    err_step _ _ c.from_residual-in_err-barred.ensures.1 ∙ sym (rw (r, b, c.if-not-assign.false, n, z))
 
 pub make_row-requires-2 : goal.make_row-requires-2
-make_row-requires-2 c = omega (arith, count_most _ _ _ (sym c.read_count-b.ensures ∙ c.in-Value.is))
+make_row-requires-2 c = omega (arith, count_most _ _ _ (sym c.in_ok-brackets.ensures))
 
 pub returns : goal.returns
 unfolding table_row_at condition_at
 returns c =
-    let f = got range_answers (range_at _ _ _ _) c.read_range-f.ensures c.in-At.is in
-    let b = sym c.read_count-b.ensures ∙ c.in-Value.is in
-    let y = not-false c.args.assign c.if-not-assign.false-raw in
-    let n = sym c.read_set-n.ensures ∙ c.in-Value-n.is in
-    let z = sym c.read_set-z.ensures ∙ c.in-Value-z.is in
-    rw (f, b, y, n, z, c.make_row-2.ensures)
+    let r = sym c.in_ok-range.ensures in
+    let b = sym c.in_ok-brackets.ensures in
+    let n = sym c.in_ok-needed.ensures in
+    let z = sym c.in_ok-barred.ensures in
+    rw (r, b, c.if-not-assign.false, n, z, c.make_row-2.ensures)

@@ -1,36 +1,31 @@
 -- The loop keeps that the run from here gives what the run from the start gives. Assumes nothing.
-use mathlib.Core.Path.{sym, ◌∙◌, ap}
-use Rattle.number.proofs.Runs.{begin, goes, stops, over}
-use Rattle.sections.specs.Sections.{people_read, no_people}
-use Rattle.sections.proofs.Laws.{refused_by, count_most, user_not, user_not_2, user_in, people_none, people-run}
+use mathlib.Core.Path.{sym, ◌∙◌}
+use Rattle.number.proofs.Runs.{err_step, begin, goes, stops, over}
+use Rattle.sections.proofs.Laws.{count_most, user_not, user_not_2, user_in, people_none, people-run}
 use Rattle.sections.proofs.read_people.Goals as goal
 
-pub returns-in_default : goal.returns-in_default
-returns-in_default c =
-    let e = c.in_default.is in
-    refused_by no_people c.no_people.ensures c.ended_by.ensures e ∙ sym (ap people_read (people_none _ _ _ _ (sym c.read_count-c.ensures ∙ e)))
+pub returns-in_err-most : goal.returns-in_err-most
+returns-in_err-most c = err_step _ _ c.from_residual.ensures.1 ∙ sym (people_none _ _ _ _ (sym c.in_err-most.ensures))
 
 pub loop-i-init : goal.loop-i-init
 loop-i-init c =
-    let e = sym c.read_count-c.ensures ∙ c.in-Value.is in
+    let e = sym c.in_ok-most.ensures in
     (count_most _ _ _ e, rw (people-run _ _ _ _ e) (begin _ _))
 
-pub returns-in_default-a : goal.returns-in_default-a
-returns-in_default-a c =
-    let e = c.in_default-a.is in
-    refused_by no_people c.no_people-in_default-a.ensures c.ended_by-in_default-a.ensures e
-    ∙ sym (ap people_read (stops c.loop-i.invariant.1 c.loop-i-test.true (user_not _ _ _ _ _ _ (sym c.read_set-a.ensures ∙ e))))
+pub returns-in_err-x : goal.returns-in_err-x
+returns-in_err-x c =
+    let stopped = user_not _ _ _ _ _ _ (sym c.in_err-x.ensures) in
+    err_step _ _ c.from_residual-in_err-x.ensures.1 ∙ sym (stops c.loop-i.invariant.1 c.loop-i-test.true stopped)
 
-pub returns-in_default-b : goal.returns-in_default-b
-returns-in_default-b c =
-    let e = c.in_default-b.is in
-    refused_by no_people c.no_people-in_default-b.ensures c.ended_by-in_default-b.ensures e
-    ∙ sym (ap people_read (stops c.loop-i.invariant.1 c.loop-i-test.true (user_not_2 _ _ _ _ _ _ (sym c.read_set-a.ensures ∙ c.in-Value-a.is) (sym c.read_set-b.ensures ∙ e))))
+pub returns-in_err-y : goal.returns-in_err-y
+returns-in_err-y c =
+    let stopped = user_not_2 _ _ _ _ _ _ (sym c.in_ok-x.ensures) (sym c.in_err-y.ensures) in
+    err_step _ _ c.from_residual-in_err-y.ensures.1 ∙ sym (stops c.loop-i.invariant.1 c.loop-i-test.true stopped)
 
 pub loop-i-preserved : goal.loop-i-preserved
 loop-i-preserved c =
     let inv = c.loop-i.invariant in
-    (inv.0, goes inv.1 c.loop-i-test.true (user_in _ _ _ _ _ _ (sym c.read_set-a.ensures ∙ c.in-Value-a.is) (sym c.read_set-b.ensures ∙ c.in-Value-b.is)))
+    (inv.0, goes inv.1 c.loop-i-test.true (user_in _ _ _ _ _ _ (sym c.in_ok-x.ensures) (sym c.in_ok-y.ensures)))
 
 pub returns : goal.returns
-returns c = sym (ap people_read (over c.loop-i.invariant.1 c.loop-i-test.false))
+returns c = sym (over c.loop-i.invariant.1 c.loop-i-test.false)

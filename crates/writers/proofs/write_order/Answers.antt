@@ -1,12 +1,12 @@
 use Rattle.layout.specs.Layout.{order_bytes}
 use Rattle.number.proofs.Puts.{put_none}
-use Rattle.writers.proofs.Chains.{wrote_next, wrote_each, wrote_long, put_fits, put_wrote, room_first, room_next}
+use Rattle.writers.proofs.Chains.{chains, put_fits, room_next}
 use borrow.Author.Rules.{rules}
 use Rattle.writers.proofs.write_order.Goals as goal
 
 pub put_number-place-requires : goal.put_number-place-requires
 unfolding order_bytes
-put_number-place-requires c = room_first _ _ c.requires
+put_number-place-requires c = search chains
 
 pub loop-a-init : goal.loop-a-init
 loop-a-init c = put_none
@@ -19,15 +19,11 @@ write_juniors-place-requires c =
     (search rules, put_fits loop c.loop-a-test.true (room_next first c.requires))
 
 pub loop-a-preserved : goal.loop-a-preserved
-loop-a-preserved c = put_wrote c.loop-a.invariant c.loop-a-test.true c.write_juniors-place.ensures
+loop-a-preserved c = search chains
 
 pub shape_of-out : goal.shape_of-out
-shape_of-out c =
-    let first = c.put_number-place.ensures in
-    wrote_long (wrote_next first (wrote_each c.loop-a.invariant c.loop-a-test.false))
+shape_of-out c = search chains
 
 pub returns : goal.returns
 unfolding order_bytes
-returns c =
-    let first = c.put_number-place.ensures in
-    wrote_next first (wrote_each c.loop-a.invariant c.loop-a-test.false)
+returns c = search chains

@@ -1,4 +1,3 @@
-use Prim.Native.Nat.{◌-◌}
 use Rattle.layout.specs.Layout.{juniors_bytes}
 use lib.ListN.{get_or}
 use Rattle.number.proofs.Puts.{Putting}
@@ -6,6 +5,3 @@ use Rattle.writers.proofs.write_order.Given as goal
 
 abbrev pub invariant-loop-a : goal.invariant-loop-a
 invariant-loop-a l = Putting (λ i. juniors_bytes l.o.used i (get_or l.o.juniors i 0)) 64 l.initial.out l.initial.place l.a l.out l.place
-
-abbrev pub decreases-loop-a : goal.decreases-loop-a
-decreases-loop-a l = 64 - l.a

@@ -1,32 +1,39 @@
+use Prim.Native.Nat.{◌<◌, ◌≤◌}
+use lib.Seq.{get_or-take}
 use Rattle.layout.specs.Layout.{permissions_bytes}
+use Rattle.layout.proofs.Counts.{front_in, front-over}
 use Rattle.number.proofs.Puts.{put_none}
-use Rattle.writers.proofs.Chains.{wrote_next, wrote_each, wrote_long, put_fits, put_wrote, room_first, room_next}
+use Rattle.writers.proofs.Chains.{chains, wrote_next, wrote_each, put_fits, put_wrote, room_next}
+use borrow.Author.Rules.{rules}
 use Rattle.writers.proofs.write_permissions.Goals as goal
 
 pub put_number-place-requires : goal.put_number-place-requires
 unfolding permissions_bytes
-put_number-place-requires c = room_first _ _ c.requires.1
+put_number-place-requires c = search chains
 
-pub loop-i-init : goal.loop-i-init
-loop-i-init c = put_none
+pub loop-roles-init : goal.loop-roles-init
+loop-roles-init c = put_none
 
-pub put_number-place-requires-in-loop-i : goal.put_number-place-requires-in-loop-i
+pub put_number-place-requires-in-loop-roles : goal.put_number-place-requires-in-loop-roles
 unfolding permissions_bytes
-put_number-place-requires-in-loop-i c =
-    let first = c.put_number-place.ensures in
-    let loop = c.loop-i.invariant in
-    put_fits loop c.loop-i-test.true (room_next first c.requires.1)
+put_number-place-requires-in-loop-roles c =
+    let m = c.args.m in
+    let next : c.loop-roles.roles-index < m.count = front_in m.roles c.loop-roles-test.true in
+    rw get_or-take (put_fits c.loop-roles.invariant next (room_next c.put_number-place.ensures c.requires.1))
 
-pub loop-i-preserved : goal.loop-i-preserved
-loop-i-preserved c = put_wrote c.loop-i.invariant c.loop-i-test.true c.put_number-place-in-loop-i.ensures
+pub loop-roles-preserved : goal.loop-roles-preserved
+loop-roles-preserved c =
+    let m = c.args.m in
+    let next : c.loop-roles.roles-index < m.count = front_in m.roles c.loop-roles-test.true in
+    let ens = c.put_number-place-in-loop-roles.ensures in
+    put_wrote c.loop-roles.invariant next (rw get_or-take at ens)
 
 pub shape_of-out : goal.shape_of-out
-shape_of-out c =
-    let first = c.put_number-place.ensures in
-    wrote_long (wrote_next first (wrote_each c.loop-i.invariant c.loop-i-test.false))
+shape_of-out c = search chains
 
 pub returns : goal.returns
 unfolding permissions_bytes
 returns c =
-    let first = c.put_number-place.ensures in
-    wrote_next first (wrote_each c.loop-i.invariant c.loop-i-test.false)
+    let m = c.args.m in
+    let last : m.count ≤ c.loop-roles.roles-index = front-over m.roles (search rules) c.loop-roles-test.false in
+    wrote_next c.put_number-place.ensures (wrote_each c.loop-roles.invariant last)

@@ -1,11 +1,11 @@
 use Rattle.layout.specs.Layout.{users_bytes}
 use Rattle.number.proofs.Puts.{put_none}
-use Rattle.writers.proofs.Chains.{wrote_next, wrote_each, wrote_long, put_fits, put_wrote, room_first, room_next}
+use Rattle.writers.proofs.Chains.{chains, put_fits, room_next}
 use Rattle.writers.proofs.write_users.Goals as goal
 
 pub put_number-place-requires : goal.put_number-place-requires
 unfolding users_bytes
-put_number-place-requires c = room_first _ _ c.requires.1
+put_number-place-requires c = search chains
 
 pub loop-i-init : goal.loop-i-init
 loop-i-init c = put_none
@@ -18,15 +18,11 @@ write_user-place-requires c =
     put_fits loop c.loop-i-test.true (room_next first c.requires.1)
 
 pub loop-i-preserved : goal.loop-i-preserved
-loop-i-preserved c = put_wrote c.loop-i.invariant c.loop-i-test.true c.write_user-place.ensures
+loop-i-preserved c = search chains
 
 pub shape_of-out : goal.shape_of-out
-shape_of-out c =
-    let first = c.put_number-place.ensures in
-    wrote_long (wrote_next first (wrote_each c.loop-i.invariant c.loop-i-test.false))
+shape_of-out c = search chains
 
 pub returns : goal.returns
 unfolding users_bytes
-returns c =
-    let first = c.put_number-place.ensures in
-    wrote_next first (wrote_each c.loop-i.invariant c.loop-i-test.false)
+returns c = search chains

@@ -1,29 +1,23 @@
 use native.Mathlib.Omega.{arith}
 use Rattle.layout.specs.Layout.{tables_bytes, table_of}
-use Rattle.writers.proofs.Chains.{wrote_long, wrote_inside, wrote_rest, room_first, room_rest, rest-inside}
+use Rattle.writers.proofs.Chains.{chains, wrote_inside, wrote_rest, room_first}
 use Rattle.writing.proofs.write_tables.Goals as goal
 
 pub write_rows-assign-requires : goal.write_rows-assign-requires
 unfolding tables_bytes table_of
-write_rows-assign-requires c = (c.requires.0.assign, room_first _ _ (room_first _ _ (room_first _ _ (room_first _ _ c.requires.1))))
+write_rows-assign-requires c = search chains
 
 pub slice_bounds-write_rows-count : goal.slice_bounds-write_rows-count
 unfolding tables_bytes table_of
-slice_bounds-write_rows-count c =
-    let one = c.write_rows-assign.ensures in
-    rest-inside one _ (room_first _ _ (room_first _ _ (room_first _ _ c.requires.1)))
+slice_bounds-write_rows-count c = search chains
 
 pub slice_bounds-write_rows-start : goal.slice_bounds-write_rows-start
 unfolding tables_bytes table_of
-slice_bounds-write_rows-start c =
-    let one = c.write_rows-assign.ensures in
-    rest-inside one _ (room_first _ _ (room_first _ _ (room_first _ _ c.requires.1)))
+slice_bounds-write_rows-start c = search chains
 
 pub write_rows-requires : goal.write_rows-requires
 unfolding tables_bytes table_of
-write_rows-requires c =
-    let one = c.write_rows-assign.ensures in
-    (c.requires.0.revoke, room_rest one (room_first _ _ (room_first _ _ (room_first _ _ c.requires.1))))
+write_rows-requires c = search chains
 
 pub overflow_add-revoke : goal.overflow_add-revoke
 unfolding tables_bytes table_of
@@ -34,24 +28,15 @@ overflow_add-revoke c =
 
 pub slice_bounds-write_rows-count-2 : goal.slice_bounds-write_rows-count-2
 unfolding tables_bytes table_of
-slice_bounds-write_rows-count-2 c =
-    let one = c.write_rows-assign.ensures in
-    let two = wrote_rest one c.write_rows.ensures in
-    rest-inside two _ (room_first _ _ (room_first _ _ c.requires.1))
+slice_bounds-write_rows-count-2 c = search chains
 
 pub slice_bounds-write_rows-start-2 : goal.slice_bounds-write_rows-start-2
 unfolding tables_bytes table_of
-slice_bounds-write_rows-start-2 c =
-    let one = c.write_rows-assign.ensures in
-    let two = wrote_rest one c.write_rows.ensures in
-    rest-inside two _ (room_first _ _ (room_first _ _ c.requires.1))
+slice_bounds-write_rows-start-2 c = search chains
 
 pub write_rows-requires-2 : goal.write_rows-requires-2
 unfolding tables_bytes table_of
-write_rows-requires-2 c =
-    let one = c.write_rows-assign.ensures in
-    let two = wrote_rest one c.write_rows.ensures in
-    (c.requires.0.assignp, room_rest two (room_first _ _ (room_first _ _ c.requires.1)))
+write_rows-requires-2 c = search chains
 
 pub overflow_add-assignp : goal.overflow_add-assignp
 unfolding tables_bytes table_of
@@ -63,27 +48,15 @@ overflow_add-assignp c =
 
 pub slice_bounds-write_rows-count-3 : goal.slice_bounds-write_rows-count-3
 unfolding tables_bytes table_of
-slice_bounds-write_rows-count-3 c =
-    let one = c.write_rows-assign.ensures in
-    let two = wrote_rest one c.write_rows.ensures in
-    let three = wrote_rest two c.write_rows-2.ensures in
-    rest-inside three _ (room_first _ _ c.requires.1)
+slice_bounds-write_rows-count-3 c = search chains
 
 pub slice_bounds-write_rows-start-3 : goal.slice_bounds-write_rows-start-3
 unfolding tables_bytes table_of
-slice_bounds-write_rows-start-3 c =
-    let one = c.write_rows-assign.ensures in
-    let two = wrote_rest one c.write_rows.ensures in
-    let three = wrote_rest two c.write_rows-2.ensures in
-    rest-inside three _ (room_first _ _ c.requires.1)
+slice_bounds-write_rows-start-3 c = search chains
 
 pub write_rows-requires-3 : goal.write_rows-requires-3
 unfolding tables_bytes table_of
-write_rows-requires-3 c =
-    let one = c.write_rows-assign.ensures in
-    let two = wrote_rest one c.write_rows.ensures in
-    let three = wrote_rest two c.write_rows-2.ensures in
-    (c.requires.0.revokep, room_rest three (room_first _ _ c.requires.1))
+write_rows-requires-3 c = search chains
 
 pub overflow_add-revokep : goal.overflow_add-revokep
 unfolding tables_bytes table_of
@@ -96,30 +69,15 @@ overflow_add-revokep c =
 
 pub slice_bounds-write_ranges-count : goal.slice_bounds-write_ranges-count
 unfolding tables_bytes table_of
-slice_bounds-write_ranges-count c =
-    let one = c.write_rows-assign.ensures in
-    let two = wrote_rest one c.write_rows.ensures in
-    let three = wrote_rest two c.write_rows-2.ensures in
-    let four = wrote_rest three c.write_rows-3.ensures in
-    rest-inside four _ c.requires.1
+slice_bounds-write_ranges-count c = search chains
 
 pub slice_bounds-write_ranges-start : goal.slice_bounds-write_ranges-start
 unfolding tables_bytes table_of
-slice_bounds-write_ranges-start c =
-    let one = c.write_rows-assign.ensures in
-    let two = wrote_rest one c.write_rows.ensures in
-    let three = wrote_rest two c.write_rows-2.ensures in
-    let four = wrote_rest three c.write_rows-3.ensures in
-    rest-inside four _ c.requires.1
+slice_bounds-write_ranges-start c = search chains
 
 pub write_ranges-requires : goal.write_ranges-requires
 unfolding tables_bytes table_of
-write_ranges-requires c =
-    let one = c.write_rows-assign.ensures in
-    let two = wrote_rest one c.write_rows.ensures in
-    let three = wrote_rest two c.write_rows-2.ensures in
-    let four = wrote_rest three c.write_rows-3.ensures in
-    (c.requires.0.modify, room_rest four c.requires.1)
+write_ranges-requires c = search chains
 
 pub overflow_add-result : goal.overflow_add-result
 unfolding tables_bytes table_of
@@ -132,20 +90,8 @@ overflow_add-result c =
     omega (arith, wrote_inside five c.requires.1, c.well_formed)
 
 pub shape_of-out : goal.shape_of-out
-shape_of-out c =
-    let one = c.write_rows-assign.ensures in
-    let two = wrote_rest one c.write_rows.ensures in
-    let three = wrote_rest two c.write_rows-2.ensures in
-    let four = wrote_rest three c.write_rows-3.ensures in
-    let five = wrote_rest four c.write_ranges.ensures in
-    wrote_long five
+shape_of-out c = search chains
 
 pub returns : goal.returns
 unfolding tables_bytes table_of
-returns c =
-    let one = c.write_rows-assign.ensures in
-    let two = wrote_rest one c.write_rows.ensures in
-    let three = wrote_rest two c.write_rows-2.ensures in
-    let four = wrote_rest three c.write_rows-3.ensures in
-    let five = wrote_rest four c.write_ranges.ensures in
-    five
+returns c = search chains

@@ -3,4 +3,4 @@ use Rattle.cases.proofs.policies.policy_from.Goals as goal
 
 pub returns : goal.returns
 unfolding empty_policy
-returns c = rw c.empty_policy-p.ensures
+returns c = rw c.empty_policy.ensures

@@ -1,9 +1,0 @@
-use Prim.Native.Nat.{◌≤◌, ◌-◌}
-use lib.ListN.{length}
-use Rattle.vectors.proofs.read_full.Given as goal
-
-abbrev pub invariant-loop-n : goal.invariant-loop-n
-invariant-loop-n g l = l.n ≤ length l.s
-
-abbrev pub decreases-loop-n : goal.decreases-loop-n
-decreases-loop-n g l = length l.s - l.n
