@@ -1,6 +1,6 @@
 -- Four numbers in one, and what is carried out. Assumes nothing.
 use Prim.Native.Nat.{ℕ, ◌+◌, ◌*◌, ◌/◌, ◌%◌, ◌≤◌, ◌<◌}
-use mathlib.Core.Path.{◌≡◌, refl, ap, ◌∙◌, subst}
+use mathlib.Core.Path.{◌≡◌, refl, ap, ◌∙◌}
 use mathlib.Core.Bool.{false}
 use mathlib.Core.List.{List}
 use native.Mathlib.Omega.{arith}
@@ -16,9 +16,6 @@ use Rattle.writing.specs.Writing.{Output, written_outcome, written_length}
 use Rattle.writing.proofs.Outputs.{length_most}
 use Rattle.answers.specs.Answers.{Fields, Fit, fields, packed, apart, refusal, of_written}
 use Rattle.answers.specs.Carried.{CarriedOut, carried_out, carried_bytes}
-
-pub fit_is : {f g : Fields} → f ≡ g → Fit f → Fit g
-fit_is {f} {g} q w = subst Fit q w
 
 pub fits : {o n p l : ℕ} → o < 256 → n < 256 → p < 65536 → l < 4294967296 → Fit (fields o n p l)
 fits a b c d = record { outcome = a; number = b; place = c; length = d }
@@ -73,7 +70,3 @@ module _ (p : Policy) (n : ℕ) (o : List ℕ) {w : Result ℕ Refusal} {a : Lis
       by : (v : Result ℕ Refusal) → written_length v ≤ 10375 → Fit (of_written n v)
       by (Ok m) l = fits (omega arith) below (omega arith) (omega (arith, l))
       by (Err r) l = fits (omega (arith, number_between r)) (omega arith) (omega arith) (omega arith)
-
--- a refusal fits, since its number does
-pub refusal_fits : (r : Refusal) → Fit (refusal (number r) 0)
-refusal_fits r = fits (omega (arith, number_between r)) (omega arith) (omega arith) (omega arith)

@@ -127,7 +127,8 @@ ranges_most m l =
 -- ---- the five tables
 module _ (t : Tables) (m : Ranges) where
   pub tables_of : length (tables_bytes t m)
-      ≡ length (rows_bytes true t.assign) + length (rows_bytes false t.revoke) + length (rows_bytes true t.assignp) + length (rows_bytes false t.revokep) + length (ranges_bytes m)
+      ≡ length (rows_bytes true t.assign) + length (rows_bytes false t.revoke)
+      + length (rows_bytes true t.assignp) + length (rows_bytes false t.revokep) + length (ranges_bytes m)
   unfolding tables_bytes table_of
   tables_of = simp length-append
 
@@ -149,7 +150,8 @@ module _ (p : Policy) where
   table_sizes s = record { assign = s.assign; revoke = s.revoke; assignp = s.assignp; revokep = s.revokep; modify = s.modify }
 
   pub policy_of : length (policy_bytes p)
-      ≡ length (num_bytes 1) + length (order_bytes p.orders.roles) + length (order_bytes p.orders.admins) + length (users_bytes p.people) + length (permissions_bytes p.permissions) + length (tables_bytes p.tables p.modify)
+      ≡ length (num_bytes 1) + length (order_bytes p.orders.roles) + length (order_bytes p.orders.admins)
+      + length (users_bytes p.people) + length (permissions_bytes p.permissions) + length (tables_bytes p.tables p.modify)
   unfolding policy_bytes sections_bytes
   policy_of = simp length-append
 

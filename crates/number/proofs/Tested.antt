@@ -15,16 +15,9 @@ use Rattle.number.proofs.Parts.{Stands}
 use Rattle.number.proofs.Numbers.{num_next, refused_next}
 use Rattle.number.proofs.RoundTrip.{read_written}
 
--- ---- what a reader answers that has read n, which is m, and tested it
-module _ (t : ℕ → Bool) (at : ℕ) {n m : Num} (q : n ≡ m) where
-  pub tested_not : {c p : ℕ} → n ≡ Refused c p → n ≡ tested t at m
-  tested_not e = let r = sym q ∙ e in e ∙ rw r
-
-  pub tested_good : {x next : ℕ} → n ≡ Value x next → t x ≡ true → Value x next ≡ tested t at m
-  tested_good e w = let r = sym q ∙ e in rw (r, w)
-
-  pub tested_bad : {x next : ℕ} → n ≡ Value x next → t x ≡ false → Refused 22 at ≡ tested t at m
-  tested_bad e w = let r = sym q ∙ e in rw (r, w)
+-- ---- what a reader answers that has read n, which is m, where it passes the test
+pub tested_good : (t : ℕ → Bool) (at : ℕ) {n m : Num} → n ≡ m → {x next : ℕ} → n ≡ Value x next → t x ≡ true → Value x next ≡ tested t at m
+tested_good t at q e w = let r = sym q ∙ e in rw (r, w)
 
 -- ---- a number that passed: it is that number, and passes the test
 pub tested_was : (t : ℕ → Bool) (at : ℕ) (m : Num) {x e : ℕ} → tested t at m ≡ Value x e → (m ≡ Value x e) × (t x ≡ true)

@@ -11,7 +11,6 @@ use Rattle.faults.specs.declared.Fault.{Fault}
 use Rattle.faults.specs.declared.Fault.TheVariants.{NotStrict, LowNotJunior, NotEncapsulated, Overlap}
 use Rattle.faults.specs.Faults.{number}
 use Rattle.reading.specs.File.{Accepted, Refused}
-use Rattle.reading.specs.File.{Loaded}
 use Rattle.reading.specs.declared.File.{File}
 use Rattle.reading.specs.File.{loaded}
 use Rattle.policy.specs.Build.{empty_policy}

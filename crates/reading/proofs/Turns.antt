@@ -9,7 +9,6 @@ use lib.Dec.{eqb, ltb}
 use lib.ListN.{length}
 use denote.Ref.{Bor}
 use Rattle.std.specs.Prelude.{⊤, Result, Ok, Err, IsErrAnd}
-use Rattle.std.specs.Result.{result_and}
 use Rattle.sets.specs.Tests.{pick}
 use Rattle.order.specs.declared.Order.{Order}
 use Rattle.policy.specs.declared.Members.{Members}
@@ -19,7 +18,7 @@ use Rattle.policy.specs.declared.Ranges.{Ranges}
 use Rattle.policy.specs.declared.Policy.{Policy}
 use Rattle.number.specs.declared.NumberError.{NumberError}
 use Rattle.number.specs.Number.{Value, Refused, number_of, place_of}
-use Rattle.number.specs.Run.{Step, go, stop, on_step}
+use Rattle.number.specs.Run.{Step, go, stop}
 use Rattle.sections.specs.Sections.{all_below, order_at, people_at, members_at}
 use Rattle.rows.specs.Rows.{table_at, ranges_at}
 use Rattle.rows.proofs.Right.{ranges_right}
@@ -166,13 +165,15 @@ pub how_stops : (r : Result ⊤ FileError) (e : FileError) → IsErrAnd r (λ f.
 how_stops (Ok u) e h = absurd h
 how_stops (Err f) e h = rw h
 
--- of two that are looked at, the first that is refused is the answer
-pub first_wins : (a b : Result ⊤ FileError) (t : Bool) (c p : ℕ) (h : How) → as_how a ≡ pick t (how.Refused c p) how.Accepted → as_how b ≡ h
-    → as_how (result_and a b) ≡ pick t (how.Refused c p) h
-first_wins (Ok u) b true c p h q e = absurd (let z : ◌≡◌ {A = ℕ} 0 1 = cc in omega arith)
-first_wins (Err x) b true c p h q e = q
-first_wins (Ok u) b false c p h q e = e
-first_wins (Err x) b false c p h q e = absurd (let z : ◌≡◌ {A = ℕ} 0 1 = cc in omega arith)
+-- of two that are looked at: the first where it is refused, the next where it is not
+pub first_stops : (t : Bool) (c p n q : ℕ) (h : How) → how.Refused n q ≡ pick t (how.Refused c p) how.Accepted
+    → how.Refused n q ≡ pick t (how.Refused c p) h
+first_stops true c p n q h e = e
+first_stops false c p n q h e = absurd (let z : ◌≡◌ {A = ℕ} 0 1 = cc in omega arith)
+
+pub next_asked : (t : Bool) (c p : ℕ) (h : How) → how.Accepted ≡ pick t (how.Refused c p) how.Accepted → h ≡ pick t (how.Refused c p) h
+next_asked true c p h e = absurd (let z : ◌≡◌ {A = ℕ} 0 1 = cc in omega arith)
+next_asked false c p h e = refl
 
 -- all is read: what is looked at then
 pub judged_so : (s : List ℕ) (end : ℕ) (f : Front) (x : Rest) (r : Result ⊤ FileError) → as_how r ≡ judgement s end f.orders x.modify

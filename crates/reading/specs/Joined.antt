@@ -13,7 +13,7 @@ use Rattle.faults.specs.Faults.{fault}
 use Rattle.reader.specs.declared.Reader.{Reader}
 use Rattle.reading.specs.declared.File.{File}
 use Rattle.reading.specs.declared.FileError.{FileError}
-use Rattle.reading.specs.File.{Front, Rest, file, How, Accepted, Refused, as_how, loaded, error_number, error_place}
+use Rattle.reading.specs.File.{Front, Rest, file, How, Accepted, Refused, error_number, error_place}
 
 -- what stands in a policy before its tables
 abbrev pub front_of : Policy → Front

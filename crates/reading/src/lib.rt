@@ -152,7 +152,8 @@ fn judge(s: &[u8], end: usize, orders: Orders, modify: Ranges) -> Result<(), Fil
     requires { modify.count ≤ 64 }
     ensures { as_how result ≡ judgement s.now end orders modify }
 {
-    nothing_left(s, end).and(no_fault(orders, modify))
+    nothing_left(s, end)?;
+    no_fault(orders, modify)
 }
 
 // A file with nothing in it, to be read into.

@@ -59,9 +59,11 @@ module _ (s : List ℕ) (small : (k : ℕ) → get_or s k 0 < 256) where
   member_exact of q = tested_exact (has of) q
 
   -- ---- a count, and that many things: g b i are the bytes of thing i in the state b
-  module _ {A : Type 0} (f : ℕ → ℕ → A → Step A) (Ok : ℕ → A → Type 0) (g : A → ℕ → List ℕ) (count : A → ℕ) (most : ℕ) (start : ℕ → A)
+  module _ {A : Type 0} (f : ℕ → ℕ → A → Step A) (Ok : ℕ → A → Type 0) (g : A → ℕ → List ℕ)
+      (count : A → ℕ) (most : ℕ) (start : ℕ → A)
       (begins : (n : ℕ) → Ok n (start n)) (counts : (n : ℕ) (a : A) → Ok n a → count a ≡ n)
-      (steps : (n : ℕ) → n ≤ most → (i at : ℕ) (a : A) (next : ℕ) (b : A) → i < n → at ≤ length s → Ok n a → f i at a ≡ go next b → Stepped (Ok n) g s i at a next b) where
+      (steps : (n : ℕ) → n ≤ most → (i at : ℕ) (a : A) (next : ℕ) (b : A) → i < n → at ≤ length s → Ok n a → f i at a ≡ go next b
+      → Stepped (Ok n) g s i at a next b) where
     pub counted_exact : (at : ℕ) {e : ℕ} {b : A} → on_num (count_at s most at) (λ n next. run f n 0 next (start n)) ≡ go e b
         → Exact s at e (num_bytes (count b) ++ each (g b) (count b) 0)
     counted_exact at {e} {b} q =

@@ -86,7 +86,8 @@ module _ (s : List ℕ) (small : (k : ℕ) → get_or s k 0 < 256) where
             ok = record { count_is = k.count_is; long = length-set p.users.roles i x ∙ k.long; wide = length-set p.offices i y ∙ k.wide };
             onward = a.onward;
             within = a.within;
-            bytes = ap₂ user_bytes (get_or-set_same p.users.roles i x 0 (omega (arith, k.long))) (get_or-set_same p.offices i y 0 (omega (arith, k.wide))) ∙ a.bytes;
+            bytes = ap₂ user_bytes (get_or-set_same p.users.roles i x 0 (omega (arith, k.long)))
+                (get_or-set_same p.offices i y 0 (omega (arith, k.wide))) ∙ a.bytes;
             stays = λ j d. ap₂ user_bytes (get_or-set_other p.users.roles i j x 0 (omega arith)) (get_or-set_other p.offices i j y 0 (omega arith));
           })
 
@@ -94,7 +95,8 @@ module _ (s : List ℕ) (small : (k : ℕ) → get_or s k 0 < 256) where
   unfolding people_at users_bytes user_bytes_lem
   users_exact roles admins at q =
       counted_exact s small (user_step s roles admins) PeopleOk user_bytes_lem (λ p. p.users.count) 256 (λ n. people n (replicate 256 0) (replicate 256 0))
-      (λ n. record { count_is = refl; long = length-replicate {A = ℕ} 256 0; wide = length-replicate {A = ℕ} 256 0 }) (λ n p k. k.count_is) (user_step_lem roles admins) at q
+      (λ n. record { count_is = refl; long = length-replicate {A = ℕ} 256 0; wide = length-replicate {A = ℕ} 256 0 })
+      (λ n p k. k.count_is) (user_step_lem roles admins) at q
 
   -- ---- an order
   junior_bytes : ℕ → List ℕ → ℕ → List ℕ
@@ -103,12 +105,13 @@ module _ (s : List ℕ) (small : (k : ℕ) → get_or s k 0 < 256) where
   record Long (l : List ℕ) : Type 0 where
     long : length l ≡ 64
 
-  junior_step_lem : (used i at : ℕ) (l : List ℕ) (next : ℕ) (b : List ℕ) → i < 64 → at ≤ length s → Long l → junior_step s used i at l ≡ go next b
-      → Stepped Long (junior_bytes used) s i at l next b
+  junior_step_lem : (used i at : ℕ) (l : List ℕ) (next : ℕ) (b : List ℕ) → i < 64 → at ≤ length s → Long l
+      → junior_step s used i at l ≡ go next b → Stepped Long (junior_bytes used) s i at l next b
   unfolding junior_step junior_bytes
   junior_step_lem used i at l next b h m k q = by (has used i) refl q
     where
-      by : (t : Bool) → has used i ≡ t → pick t (on_num (set_at s used at) (λ x e. go e (set l i x))) (go at l) ≡ go next b → Stepped Long (junior_bytes used) s i at l next b
+      by : (t : Bool) → has used i ≡ t → pick t (on_num (set_at s used at) (λ x e. go e (set l i x))) (go at l) ≡ go next b
+          → Stepped Long (junior_bytes used) s i at l next b
       by true t q = let a = on_num_lem (set_at s used at) _ q in done a.0 a.1 a.2 a.3
         where
           done : (x mid : ℕ) → set_at s used at ≡ Value x mid → go mid (set l i x) ≡ go next b → Stepped Long (junior_bytes used) s i at l next b

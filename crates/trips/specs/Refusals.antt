@@ -61,7 +61,8 @@ pub data OrderFails (s : List ℕ) (all at c p : ℕ) : Type 0 where
       → run (junior_step s used) i 0 mid (replicate 64 0) ≡ go place juniors → SetFails s used place c p → OrderFails s all at c p
 
 -- a count and what it counts: the count, or a number of thing i
-pub data EachFails {A : Type 0} (s : List ℕ) (most : ℕ) (step : ℕ → ℕ → A → Step A) (start : ℕ → A) (ItemFails : ℕ → Type 0) (at c p : ℕ) : Type 0 where
+pub data EachFails {A : Type 0} (s : List ℕ) (most : ℕ) (step : ℕ → ℕ → A → Step A) (start : ℕ → A) (ItemFails : ℕ → Type 0)
+    (at c p : ℕ) : Type 0 where
   the_count : CountFails s most at c p → EachFails s most step start ItemFails at c p
   item : (i : ℕ) {n next place : ℕ} {a : A} → count_at s most at ≡ Value n next → i < n → run step i 0 next (start n) ≡ go place a
       → ItemFails place → EachFails s most step start ItemFails at c p
@@ -81,11 +82,12 @@ pub data RangeFails (s : List ℕ) (roles admins at c p : ℕ) : Type 0 where
 -- any other row: these three, the brackets, and in the two can-assign tables the needed set, or the barred set
 pub data RowFails (s : List ℕ) (assign : Bool) (roles admins at c p : ℕ) : Type 0 where
   ends : RangeFails s roles admins at c p → RowFails s assign roles admins at c p
-  brackets : {fourth : ℕ} {r : ModifyRow} → range_at s roles admins at ≡ go fourth r → CountFails s 3 fourth c p → RowFails s assign roles admins at c p
+  brackets : {fourth : ℕ} {r : ModifyRow} → range_at s roles admins at ≡ go fourth r
+      → CountFails s 3 fourth c p → RowFails s assign roles admins at c p
   needed : {fourth fifth b : ℕ} {r : ModifyRow} → assign ≡ true → range_at s roles admins at ≡ go fourth r → count_at s 3 fourth ≡ Value b fifth
       → SetFails s roles fifth c p → RowFails s assign roles admins at c p
-  barred : {fourth fifth sixth b n : ℕ} {r : ModifyRow} → assign ≡ true → range_at s roles admins at ≡ go fourth r → count_at s 3 fourth ≡ Value b fifth
-      → set_at s roles fifth ≡ Value n sixth → SetFails s roles sixth c p → RowFails s assign roles admins at c p
+  barred : {fourth fifth sixth b n : ℕ} {r : ModifyRow} → assign ≡ true → range_at s roles admins at ≡ go fourth r
+      → count_at s 3 fourth ≡ Value b fifth → set_at s roles fifth ≡ Value n sixth → SetFails s roles sixth c p → RowFails s assign roles admins at c p
 
 abbrev pub PeopleFails : List ℕ → ℕ → ℕ → ℕ → ℕ → ℕ → Type 0
 PeopleFails s roles admins at c p =

@@ -1,8 +1,6 @@
-use Prim.Native.Nat.{◌+◌, ◌*◌, ◌%◌, ◌^◌, ◌≤◌, ◌<◌}
 use mathlib.Core.Path.{sym, ◌∙◌}
 use native.Mathlib.Omega.{arith}
 use borrow.Author.Tests.{leb-true, leb-false}
-use lib.ListN.{get_or, length}
 use Rattle.number.proofs.Values.{byte_inside}
 use Rattle.number.proofs.Reader.{reading_start, reading_room, reading_low, reading_more, reading_last, reading_tenth}
 use Rattle.number.proofs.read_groups.Goals as goal

@@ -1,10 +1,7 @@
-use Prim.Native.Nat.{◌+◌, ◌*◌, ◌^◌, ◌<◌}
-use mathlib.Core.Path.{◌≡◌, refl, sym, ◌∙◌}
+use mathlib.Core.Path.{refl, sym, ◌∙◌}
 use Rattle.number.proofs.read_number.Goals.{then-is_long-via-then-is_long, then-is_long-via-else-is_long+then-is_over}
 use native.Mathlib.Omega.{arith}
 use Rattle.sets.proofs.Tests.{or_l, or_r}
-use Rattle.number.specs.Number.{num_at}
-use Rattle.number.specs.Number.{Value}
 use Rattle.number.proofs.Reader.{read_ended, read_bad, read_good}
 use Rattle.number.proofs.read_number.Goals as goal
 
@@ -20,10 +17,22 @@ returns-then-is_long c =
     ])
 
 pub overflow_mul-result : goal.overflow_mul-result
-overflow_mul-result c = omega (arith, (read_good c.read_groups-last.ensures c.if-end-last.false c.from-b.ensures refl (sym c.is_long.ensures ∙ c.if-is_long.false) (sym c.is_over.ensures ∙ c.if-is_over.false)).1)
+overflow_mul-result c =
+    let long = sym c.is_long.ensures ∙ c.if-is_long.false in
+    let over = sym c.is_over.ensures ∙ c.if-is_over.false in
+    let read = read_good c.read_groups-last.ensures c.if-end-last.false c.from-b.ensures refl long over in
+    omega (arith, read.1)
 
 pub overflow_add-result : goal.overflow_add-result
-overflow_add-result c = omega (arith, (read_good c.read_groups-last.ensures c.if-end-last.false c.from-b.ensures refl (sym c.is_long.ensures ∙ c.if-is_long.false) (sym c.is_over.ensures ∙ c.if-is_over.false)).1)
+overflow_add-result c =
+    let long = sym c.is_long.ensures ∙ c.if-is_long.false in
+    let over = sym c.is_over.ensures ∙ c.if-is_over.false in
+    let read = read_good c.read_groups-last.ensures c.if-end-last.false c.from-b.ensures refl long over in
+    omega (arith, read.1)
 
 pub returns : goal.returns
-returns c = (read_good c.read_groups-last.ensures c.if-end-last.false c.from-b.ensures refl (sym c.is_long.ensures ∙ c.if-is_long.false) (sym c.is_over.ensures ∙ c.if-is_over.false)).0
+returns c =
+    let long = sym c.is_long.ensures ∙ c.if-is_long.false in
+    let over = sym c.is_over.ensures ∙ c.if-is_over.false in
+    let read = read_good c.read_groups-last.ensures c.if-end-last.false c.from-b.ensures refl long over in
+    read.0

@@ -1,5 +1,5 @@
 -- Assumes nothing.
-use mathlib.Core.Path.{refl, sym, ◌∙◌}
+use mathlib.Core.Path.{sym, ◌∙◌}
 use lib.Dec.{eqb}
 use Rattle.std.proofs.Common.{rules}
 use Rattle.sections.specs.Sections.{people_at, members_at}
