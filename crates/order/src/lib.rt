@@ -38,7 +38,81 @@ pub fn seniors_of(above: &[u64], b: usize) -> u64
     juniors_of(above, b)
 }
 
-// What is asked of an order.
+// Is a equal or senior to b?
+#[tactic(auto, using(crate::proofs::Joined::joined), unfolding(crate::specs::Order::at_least))]
+pub fn is_at_least(juniors: &[u64], a: usize, b: usize) -> bool
+    ensures { result ≡ at_least (senior juniors.now) a b }
+{
+    a == b || is_senior(juniors, a, b)
+}
+
+// The set of all seniors of b.
+pub fn seniors(juniors: &[u64], b: usize) -> u64
+    requires { length juniors.now ≤ 64 }
+    ensures { Exactly result (λ a. senior juniors.now a b) }
+{
+    let mut set = 0;
+    for a in 0..juniors.len() {
+        if is_senior(juniors, a, b) {
+            set = with(set, a);
+        }
+    }
+    set
+}
+
+// The set of all seniors of each role, so that who asks it of many roles finds it once.
+pub fn all_seniors(juniors: &[u64]) -> [u64; 64]
+    requires { length juniors.now ≡ 64 }
+    ensures { Above juniors.now result }
+{
+    let mut above = [0; 64];
+    for a in 0..64 {
+        raise(&mut above, a, juniors[a]);
+    }
+    above
+}
+
+// Is (a, b) an edge?
+#[tactic(auto, using(crate::proofs::Joined::joined), unfolding(crate::specs::Order::edge))]
+pub fn is_edge(juniors: &[u64], a: usize, b: usize) -> bool
+    requires { length juniors.now ≤ 64 }
+    ensures { result ≡ edge (senior juniors.now) a b }
+{
+    is_senior(juniors, a, b) && both(juniors_of(juniors, a), seniors(juniors, b)) == 0
+}
+
+// Has some member of row a junior that row lacks?
+fn lacks_one(juniors: &[u64], row: u64) -> bool
+    ensures { result ≡ any 64 (λ b. has row b and neg (subset 64 (get_or juniors.now b 0) row)) }
+{
+    let mut rest = row;
+    while rest != 0 {
+        let b = lowest(rest);
+        if !subset(juniors_of(juniors, b), row) {
+            return true;
+        }
+        rest = without_lowest(rest);
+    }
+    false
+}
+
+#[tactic(auto, using(crate::proofs::Joined::joined), unfolding(crate::specs::Order::faulty))]
+fn is_faulty(juniors: &[u64], a: usize) -> bool
+    ensures { result ≡ faulty (senior juniors.now) a }
+{
+    is_senior(juniors, a, a) || lacks_one(juniors, juniors_of(juniors, a))
+}
+
+// The first role that is its own senior or has a junior whose junior it lacks; the number of rows where the order is strict.
+pub fn first_fault(juniors: &[u64]) -> usize
+    requires { length juniors.now ≤ 64 }
+    ensures { result ≡ first_fault juniors.now }
+{
+    let end = juniors.len();
+    (0..end).find(|a| is_faulty(juniors, *a)).unwrap_or(end)
+}
+
+// What is asked of an order: each of its juniors' sets, which are 64.
 impl Order {
     // The set of all juniors of a.
     pub fn juniors_of(&self, a: usize) -> u64
@@ -55,11 +129,10 @@ impl Order {
     }
 
     // Is a equal or senior to b?
-    #[tactic(auto, using(crate::proofs::Joined::joined), unfolding(crate::specs::Order::at_least))]
     pub fn is_at_least(&self, a: usize, b: usize) -> bool
         ensures { result ≡ at_least (senior self.now.juniors) a b }
     {
-        a == b || self.is_senior(a, b)
+        is_at_least(&self.juniors, a, b)
     }
 
     // Are a and b equal, or one senior to the other?
@@ -71,35 +144,24 @@ impl Order {
     }
 
     // Is (a, b) an edge?
-    #[tactic(auto, using(crate::proofs::Joined::joined), unfolding(crate::specs::Order::edge))]
     pub fn is_edge(&self, a: usize, b: usize) -> bool
         ensures { result ≡ edge (senior self.now.juniors) a b }
     {
-        self.is_senior(a, b) && both(self.juniors_of(a), self.seniors(b)) == 0
+        is_edge(&self.juniors, a, b)
     }
 
     // The set of all seniors of b.
     pub fn seniors(&self, b: usize) -> u64
         ensures { Exactly result (λ a. senior self.now.juniors a b) }
     {
-        let mut set = 0;
-        for a in 0..64 {
-            if self.is_senior(a, b) {
-                set = with(set, a);
-            }
-        }
-        set
+        seniors(&self.juniors, b)
     }
 
-    // The set of all seniors of each role, so that who asks it of many roles finds it once.
+    // The set of all seniors of each role.
     pub fn all_seniors(&self) -> [u64; 64]
         ensures { Above self.now.juniors result }
     {
-        let mut above = [0; 64];
-        for a in 0..64 {
-            raise(&mut above, a, self.juniors[a]);
-        }
-        above
+        all_seniors(&self.juniors)
     }
 
     // The members of set and all their juniors.
@@ -116,33 +178,11 @@ impl Order {
         down
     }
 
-    // The first role that is its own senior or has a junior whose junior it lacks, 64 where the order is strict.
+    // The first faulty role, 64 where the order is strict.
     pub fn first_fault(&self) -> usize
         ensures { result ≡ first_fault self.now.juniors }
     {
-        (0..64).find(|a| self.is_faulty(*a)).unwrap_or(64)
-    }
-
-    #[tactic(auto, using(crate::proofs::Joined::joined), unfolding(crate::specs::Order::faulty))]
-    fn is_faulty(&self, a: usize) -> bool
-        ensures { result ≡ faulty (senior self.now.juniors) a }
-    {
-        self.is_senior(a, a) || self.lacks_one(self.juniors_of(a))
-    }
-
-    // Has some member of row a junior that row lacks?
-    fn lacks_one(&self, row: u64) -> bool
-        ensures { result ≡ any 64 (λ b. has row b and neg (subset 64 (get_or self.now.juniors b 0) row)) }
-    {
-        let mut rest = row;
-        while rest != 0 {
-            let b = lowest(rest);
-            if !subset(self.juniors_of(b), row) {
-                return true;
-            }
-            rest = without_lowest(rest);
-        }
-        false
+        first_fault(&self.juniors)
     }
 }
 

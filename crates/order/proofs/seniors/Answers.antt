@@ -1,8 +1,7 @@
-use native.Mathlib.Omega.{arith}
-use Rattle.order.proofs.Order.seniors.Goals.{then-is_senior, else-is_senior}
+use Rattle.order.proofs.seniors.Goals.{then-is_senior, else-is_senior}
 use Rattle.sets.proofs.Loops.{gather_begin, gather_take, gather_skip, gather_end}
 use Rattle.order.proofs.Lists.{senior_past}
-use Rattle.order.proofs.Order.seniors.Goals as goal
+use Rattle.order.proofs.seniors.Goals as goal
 
 pub loop-a-init : goal.loop-a-init
 loop-a-init c = gather_begin _
@@ -16,4 +15,4 @@ loop-a-preserved c =
     ]
 
 pub returns : goal.returns
-returns c = gather_end _ _ 64 _ c.loop-a-test.false (λ a l. senior_past c.args.self.now.juniors c.args.b a (omega arith)) c.loop-a.invariant
+returns c = gather_end _ _ _ _ c.loop-a-test.false (senior_past c.args.juniors.now c.args.b) c.loop-a.invariant

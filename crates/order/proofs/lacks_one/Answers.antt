@@ -3,7 +3,7 @@
 use Rattle.sets.proofs.Members.{left_begin, left_turn}
 use Rattle.order.proofs.Loops.{left_member, lacks_found, lacks_none}
 use borrow.Author.Rules.{rules}
-use Rattle.order.proofs.Order.lacks_one.Goals as goal
+use Rattle.order.proofs.lacks_one.Goals as goal
 
 pub loop-rest-init : goal.loop-rest-init
 loop-rest-init c = left_begin _ _
@@ -12,7 +12,7 @@ pub returns-then-not-subset : goal.returns-then-not-subset
 returns-then-not-subset c =
     let x = c.args in
     let inv = c.loop-rest.invariant in
-    lacks_found x.self.now.juniors _ _ _ inv (search rules) (left_member 64 _ _ inv (search rules) (search rules))
+    lacks_found x.juniors.now _ _ _ inv (search rules) (left_member 64 _ _ inv (search rules) (search rules))
     (search rules)
 
 pub loop-rest-smaller : goal.loop-rest-smaller
@@ -24,4 +24,4 @@ loop-rest-preserved c =
     (search rules)
 
 pub returns : goal.returns
-returns c = lacks_none c.args.self.now.juniors _ _ c.loop-rest.invariant c.loop-rest-test.false
+returns c = lacks_none c.args.juniors.now _ _ c.loop-rest.invariant c.loop-rest-test.false

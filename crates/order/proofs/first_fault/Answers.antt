@@ -7,14 +7,13 @@ use Rattle.std.proofs.iter.runs.Sources.{ranges}
 use Rattle.sets.proofs.Loops.{found_or}
 use Rattle.order.specs.Order.{senior, faulty, first_fault}
 use borrow.Author.Rules.{rules}
-use Rattle.order.proofs.Order.first_fault.Goals as goal
+use Rattle.order.proofs.first_fault.Goals as goal
 
 pub returns : goal.returns
 unfolding first_fault faulty senior
 returns c =
-    let js = c.args.self.now.juniors in
-    let faulty_first : MatchOption c.find.result ((k : ℕ) → k < 64 → faulty (senior js) k ≡ false)
-    (λ a. (a < 64) × (faulty (senior js) a ≡ true) × ((k : ℕ) → k < a → faulty (senior js) k ≡ false)) =
+    let js = c.args.juniors.now in
+    let faulty_first : MatchOption c.find.result ((k : ℕ) → k < length js → faulty (senior js) k ≡ false)
+    (λ a. (a < length js) × (faulty (senior js) a ≡ true) × ((k : ℕ) → k < a → faulty (senior js) k ≡ false)) =
     search (rules, ranges) in
-    let long : length js ≡ 64 = search rules in
-    c.unwrap_or.ensures ∙ rw long (found_or _ _ _ faulty_first)
+    c.unwrap_or.ensures ∙ found_or _ _ _ faulty_first

@@ -1,6 +1,0 @@
-use lib.ListN.{take}
-use Rattle.order.specs.Rows.{Above}
-use Rattle.order.proofs.Order.all_seniors.Given as goal
-
-abbrev pub invariant-loop-a : goal.invariant-loop-a
-invariant-loop-a l = Above (take l.a l.self.juniors) l.above
