@@ -8,7 +8,7 @@ use crate::asking::ask;
 use order::Order;
 use policy::{
     Members, Orders, People, Policy, Ranges, Row, Table, Tables, empty_policy, empty_ranges,
-    empty_table,
+    empty_table, with_permissions,
 };
 use ranges::{AdminId, ModifyRow, RoleId};
 
@@ -166,11 +166,11 @@ fn member_tables() -> Tables {
 
 // The department with rows in all tables and with permissions: p0 in QE1, p1 in PE2, p2 in PL1, p3 in QE1 and QE2, p4 in QE1 and PL2.
 fn member_policy() -> Policy {
-    Policy {
+    let p = Policy {
         tables: member_tables(),
-        permissions: members_of(&[16, 128, 32, 272, 528]),
         ..policy_from(department_orders(), member_people(), department_ranges())
-    }
+    };
+    with_permissions(p, members_of(&[16, 128, 32, 272, 528]))
 }
 
 // One administrative role, 0, held by the one user.

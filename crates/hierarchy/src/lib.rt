@@ -152,6 +152,20 @@ impl Site {
     }
 }
 
+// The same question for any number of a kind: the row of a kind that is neither 5 nor 6 allows what an edge needs.
+pub fn may_modify(site: &Site, kind: u64, a: usize, b: usize) -> bool
+    requires { site.now.modify.count ≤ 64 }
+    ensures { result ≡ may_modify site.now kind a b }
+{
+    if kind == 5 {
+        return site.may_modify(HierarchyKind::CreateRole, a, b);
+    }
+    if kind == 6 {
+        return site.may_modify(HierarchyKind::DeleteRole, a, b);
+    }
+    site.may_modify(HierarchyKind::InsertEdge, a, b)
+}
+
 // A site, and what is known of it before a change, so that the many changes of a listing are tested against it.
 #[derive(Clone, Copy)]
 pub struct Ground {
@@ -166,18 +180,25 @@ pub struct Ground {
 }
 
 impl Ground {
-    // The site of officer o. Where sound says so, its ranges are known to be sound.
-    pub fn of(p: &Policy, sound: bool, o: u64) -> Ground
-        requires { (p.now.modify.count ≤ 64) × (sound ≡ true → SoundSite (site p.now o)) }
-        ensures { result.site ≡ site p.now o }
+    // Any site. Where sound says so, its ranges are known to be sound.
+    pub fn on(site: Site, sound: bool) -> Ground
+        requires { (site.modify.count ≤ 64) × (sound ≡ true → SoundSite site) }
+        ensures { (result.site ≡ site) × (result.sound ≡ sound) }
     {
-        let site = Site::of(p, o);
         let seniors = site.roles.all_seniors();
         Ground {
             site,
             seniors,
             sound,
         }
+    }
+
+    // The site of officer o.
+    pub fn of(p: &Policy, sound: bool, o: u64) -> Ground
+        requires { (p.now.modify.count ≤ 64) × (sound ≡ true → SoundSite (site p.now o)) }
+        ensures { result.site ≡ site p.now o }
+    {
+        Ground::on(Site::of(p, o), sound)
     }
 
     // The order before as the juniors see it: who is senior is junior. A change of it with both ends exchanged finds the seniors after.

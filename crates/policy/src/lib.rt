@@ -3,7 +3,7 @@
 
 ghost use Rattle.std.specs.Prelude.{◌≡◌, get_or, set};
 ghost use Rattle.order.specs.Order.{senior};
-ghost use Rattle.policy.specs.Build.{empty_row, empty_table, empty_ranges, empty_policy};
+ghost use Rattle.policy.specs.Build.{empty_row, empty_table, empty_ranges, empty_policy, with_permissions};
 ghost use Rattle.policy.specs.Change.{changed, beside};
 ghost use Rattle.policy.specs.Outcome.{number};
 ghost use Rattle.policy.specs.Question.{may_exercise, question};
@@ -201,6 +201,14 @@ pub fn empty_policy() -> Policy
     }
 }
 
+// The policy with other permissions.
+pub fn with_permissions(mut p: Policy, permissions: Members) -> Policy
+    ensures { result ≡ with_permissions p permissions }
+{
+    p.permissions = permissions;
+    p
+}
+
 // The explicit roles of a member, or the administrative set of a user; none for a number that no member has.
 pub fn set_at(sets: &[u64; 256], member: u64) -> u64
     ensures { result ≡ get_or sets.now member 0 }
@@ -209,7 +217,7 @@ pub fn set_at(sets: &[u64; 256], member: u64) -> u64
 }
 
 // Gives a member other explicit roles; a number that no member has changes nothing.
-fn put_roles(sets: &mut [u64; 256], member: u64, roles: u64)
+pub fn put_roles(sets: &mut [u64; 256], member: u64, roles: u64)
     ensures { sets.new ≡ set sets.old member roles }
 {
     if member < 256 {
