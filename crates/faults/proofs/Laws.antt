@@ -8,7 +8,7 @@ use Rattle.sets.proofs.Quantifiers.{least_any}
 use Rattle.order.specs.declared.Order.{Order}
 use Rattle.order.specs.Order.{senior, faulty, first_fault}
 use Rattle.ranges.specs.Rows.{first_overlap}
-use Rattle.ranges.proofs.Checks.{overlap_lent}
+use Rattle.ranges.proofs.Checks.{some_overlap_lent}
 use Rattle.policy.specs.declared.Ranges.{Ranges}
 use Rattle.faults.specs.Faults.{not_strict, two_overlap}
 
@@ -19,4 +19,4 @@ strict_found o e = rw e (sym (least_any 64 (faulty (senior o.juniors))))
 pub pair_found : (o : Order) (m : Ranges) → m.count ≤ length m.rows
     → ltb (first_overlap (senior o.juniors) (length (take m.count m.rows)) (take m.count m.rows)) (length (take m.count m.rows)) ≡ two_overlap o m
 unfolding two_overlap
-pair_found o m fits = overlap_lent m.count m.rows fits (senior o.juniors)
+pair_found o m fits = some_overlap_lent m.count m.rows fits (senior o.juniors)

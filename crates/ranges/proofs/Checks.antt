@@ -10,11 +10,12 @@ use native.Mathlib.Omega.{arith}
 use lib.Dec.{leb, ltb}
 use lib.ListN.{length, take}
 use lib.Seq.{get_or-take, length-take-le}
-use borrow.Author.Tests.{lt-ltb}
+use borrow.Author.Tests.{lt-ltb, lt-leb}
 use Rattle.sets.specs.Tests.{◌and◌, ◌or◌, neg}
-use Rattle.sets.specs.Sets.{has, any}
-use Rattle.sets.proofs.Tests.{same_test, not_so, clash, and_i, and_l, and_r, and_comm, or_l, or_given, or_assoc, neg_e, not_neg}
-use Rattle.sets.proofs.Quantifiers.{any_of, any_at, any_same, any_fails, any-or, least_any}
+use Rattle.sets.specs.Sets.{has, any, least}
+use Rattle.sets.proofs.Tests.{same_test, not_so, clash, and_i, and_l, and_r, and_comm, and_fails_l, or_l, or_given, or_assoc, neg_e, not_neg}
+use Rattle.sets.proofs.Quantifiers.{any_of, any_at, any_same, any_fails, any-or, least_any, least_same}
+use Rattle.sets.proofs.Loops.{None}
 use Rattle.order.specs.Order.{Relation}
 use Rattle.ranges.specs.declared.ModifyRow.{ModifyRow}
 use Rattle.ranges.specs.declared.Look.{Look}
@@ -41,6 +42,10 @@ pub overlap_self : (p : ℕ → Bool) → overlap_in_part p p ≡ false
 unfolding overlap_in_part
 overlap_self p =
     not_so _ (λ t. let r = any_at 64 _ (and_l _ _ (and_r _ _ t)) in clash (and_l _ _ r.2) (neg_e _ (and_r _ _ r.2)))
+
+-- a loop from a place on: none below it counts
+pub none_from : (g : ℕ → Bool) (from : ℕ) → None (λ j. leb from j and g j) from
+none_from g from = record { below = λ n l. and_fails_l _ _ (lt-leb from n l) }
 
 -- what `overlap_from` finds from the next row on is a later row
 pub later : (f : Relation) (count : ℕ) (rows : List ModifyRow) (i range : ℕ) → ((r : ℕ) → has range r ≡ within f (row_at rows i) r)
@@ -111,13 +116,13 @@ module _ (n : ℕ) (rows : List ModifyRow) (fits : n ≤ length rows) where
       → any (length t) (λ i. any (length t) (λ j. g (row_at t i) (row_at t j))) ≡ any n (λ i. any n (λ j. g (row_at rows i) (row_at rows j)))
   pairs_lent g = any_same _ _ _ (λ i l. any_lent (g (row_at t i))) ∙ any_lent (λ row. any n (λ j. g row (row_at rows j)))
 
-  pub failing_lent : (look : Look) (used : ℕ) (f : Relation)
+  pub some_failing_lent : (look : Look) (used : ℕ) (f : Relation)
       → ltb (first_failing look used f (length t) t) (length t) ≡ any n (λ i. row_fails look used f (row_at rows i))
-  failing_lent look used f = failing_found f (length t) t look used ∙ any_lent (row_fails look used f)
+  some_failing_lent look used f = failing_found f (length t) t look used ∙ any_lent (row_fails look used f)
 
-  pub overlap_lent : (f : Relation)
+  pub some_overlap_lent : (f : Relation)
       → ltb (first_overlap f (length t) t) (length t) ≡ any n (λ i. any n (λ j. overlap f (row_at rows i) (row_at rows j)))
-  overlap_lent f = overlap_found f (length t) t ∙ pairs_lent (overlap f)
+  some_overlap_lent f = overlap_found f (length t) t ∙ pairs_lent (overlap f)
 
   pub unsound_lent : (used : ℕ) (f : Relation) → unsound used f (length t) t ≡ unsound used f n rows
   unfolding unsound
@@ -137,6 +142,21 @@ module _ (n : ℕ) (rows : List ModifyRow) (fits : n ≤ length rows) where
 
       same : (i : ℕ) → i < length t → row_at t i ≡ row_at rows i
       same i l = get_or-take n rows i no_row (below i l)
+
+-- what is first of the rows lent is first of the first n
+module _ (n : ℕ) (rows : List ModifyRow) (count : length (take n rows) ≡ n) where
+  lent : (g : ℕ → ModifyRow → Bool) → least (length (take n rows)) (λ k. g k (row_at (take n rows) k)) ≡ least n (λ k. g k (row_at rows k))
+  lent g = ap (λ (c : ℕ). least c (λ k. g k (row_at (take n rows) k))) count ∙ least_same n _ _ (λ k l. ap (g k) (get_or-take n rows k no_row l))
+
+  pub failing_lent : (look : Look) (used : ℕ) (f : Relation)
+      → first_failing look used f (length (take n rows)) (take n rows) ≡ first_failing look used f n rows
+  unfolding first_failing
+  failing_lent look used f = lent (λ k row. row_fails look used f row)
+
+  pub overlap_lent : (f : Relation) (from : ℕ) (range : ℕ → Bool)
+      → overlap_from f (length (take n rows)) (take n rows) from range ≡ overlap_from f n rows from range
+  unfolding overlap_from
+  overlap_lent f from range = lent (λ k row. leb from k and overlap_in_part range (within f row))
 
 -- ---- a row's two tests, as the code makes them: j is whether low is junior to high, k whether the range is encapsulated
 module _ (f : Relation) (row : ModifyRow) where

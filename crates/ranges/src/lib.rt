@@ -83,16 +83,24 @@ pub struct Ranking<'a> {
 impl<'a> Ranking<'a> {
     ghost use Rattle.ranges.specs.Ranking.{over, order_of};
 
+    // Roles in use, of each role its juniors, and its seniors, which were found: as many of either as there are.
+    pub fn on(used: u64, juniors: &'a [u64], seniors: &'a [u64]) -> Ranking<'a>
+        requires { Above juniors.now seniors.now }
+        ensures { (order_of result ≡ record { used = used; juniors = juniors.now }) × (result.seniors.now ≡ seniors.now) }
+    {
+        Ranking {
+            used,
+            juniors,
+            seniors,
+        }
+    }
+
     // An order, whose seniors were found, as a ranking.
     pub fn of(order: &'a Order, seniors: &'a [u64]) -> Ranking<'a>
         requires { Above order.now.juniors seniors.now }
         ensures { (order_of result ≡ order.now) × (result.seniors.now ≡ seniors.now) }
     {
-        Ranking {
-            used: order.used,
-            juniors: &order.juniors,
-            seniors,
-        }
+        Ranking::on(order.used, &order.juniors, seniors)
     }
 
     // The roles strictly between low and high of a row: the juniors of high among the seniors of low.
