@@ -3,12 +3,14 @@
 use mathlib.Core.Path.{◌≡◌, sym, ap, ◌∙◌}
 use mathlib.Core.Bool.{Bool, true, false}
 use Prim.Native.Nat.{ℕ, ◌≤◌, ◌<◌, ◌^◌}
+use native.Mathlib.Omega.{arith}
 use lib.Dec.{eqb}
+use borrow.Author.Tests.{ne_eqb}
 use Rattle.sets.specs.Tests.{◌and◌, ◌or◌, neg, ◌implies◌}
 use Rattle.sets.specs.Sets.{has, all, any, subset, Exactly}
-use Rattle.sets.proofs.Tests.{not_so, clash, same_test, and_i, and_l, and_r, and_given, and_fails_l, neg_i, neg_e, implies_i, implies_e}
+use Rattle.sets.proofs.Tests.{not_so, clash, same_test, and_i, and_l, and_r, and_given, and_true, and_fails_l, or_given, neg_i, neg_e, implies_i, implies_e}
 use Rattle.sets.proofs.Quantifiers.{all_of, all_at, all-and, any_fails, any_none}
-use Rattle.sets.proofs.Builders.{exactly_is, empty_test}
+use Rattle.sets.proofs.Builders.{set_of_is, exactly_is, empty_test}
 use Rattle.policy.specs.declared.Row.{Row}
 use Rattle.members.specs.declared.View.{View}
 use Rattle.members.specs.Rules.{covers, satisfied, covered, granted, with_role, without_role}
@@ -55,3 +57,14 @@ module _ (s b r : ℕ) (h : r < 2 ^ 64) where
   pub without_is : Exactly r (λ n. has s n and neg (eqb n b)) → r ≡ without_role s b
   unfolding without_role
   without_is q = exactly_is 64 r _ h q
+
+-- a number that no role has changes nothing
+module _ (s t b : ℕ) (e : s ≡ t) where
+  pub with_past : s < 2 ^ 64 → 64 ≤ b → s ≡ with_role t b
+  unfolding with_role
+  with_past h l = rw (← e) (set_of_is 64 s _ h (λ n m. sym (or_given _ _ (ne_eqb n b (omega arith)))))
+
+  pub without_past : s < 2 ^ 64 → 64 ≤ b → s ≡ without_role t b
+  unfolding without_role
+  without_past h l =
+      rw (← e) (set_of_is 64 s _ h (λ n m. sym (ap (λ (t : Bool). has s n and t) (neg_i _ (ne_eqb n b (omega arith))) ∙ and_true (has s n))))
