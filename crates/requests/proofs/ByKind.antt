@@ -1,11 +1,13 @@
--- By kind: what a test finds of every kind, or of every kind with its row of the code's table, it finds of every number; and a request is
--- answered by the kind that the code finds of its number.
+-- By kind: what a test finds of every kind, or of every kind with its row of the code's table, it finds of every number; a number that is none
+-- of 1 to 8 has no kind; and a request is answered by the kind that the code finds of its number.
 -- Assumes nothing.
 use mathlib.Core.Path.{◌≡◌, refl, sym, ap, ◌∙◌}
+use mathlib.Core.Logic.{◌⊎◌, inl, inr, ⊎_elim}
 use mathlib.Core.Bool.{Bool, true, false}
 use mathlib.Core.List.{List, [], ◌∷◌}
-use Prim.Native.Nat.{ℕ, zero, suc}
-use lib.ListN.{get_or}
+use Prim.Native.Nat.{ℕ, zero, suc, ◌<◌}
+use native.Mathlib.Omega.{arith}
+use lib.ListN.{get_or, get_or-eq_default}
 use Rattle.std.specs.Prelude.{Option, Some, None, Ok, Err}
 use Rattle.std.specs.Option.{ok_or}
 use Rattle.policy.specs.declared.Policy.{Policy}
@@ -41,6 +43,23 @@ in_lists f (x ∷ m) (n ∷ l) c d t e (suc k) = in_lists f m l c d (and_r _ _ t
 pub each_kind : (f : Option Kind → ℕ → Bool) → every f kinds NUMBERS ≡ true → (k : ℕ) → f (kind_of k) (table_row k) ≡ true
 unfolding every NUMBERS table_row
 each_kind f t k = in_lists f kinds NUMBERS None 2 t (and_l _ _ t) k
+
+-- ---- a number that is none of 1 to n, each of them ruled out in turn
+
+abbrev pub NoneUpTo : ℕ → ℕ → Type 0
+NoneUpTo zero k = Unit
+NoneUpTo (suc n) k = NoneUpTo n k × (k ≡ suc n → ⊥)
+
+beyond : (n k : ℕ) → NoneUpTo n k → (k ≡ 0) ⊎ (n < k)
+beyond zero zero r = inl refl
+beyond zero (suc k) r = inr (omega arith)
+beyond (suc n) k r = ⊎_elim (λ z. inl z) (λ l. inr (further l r.1)) (beyond n k r.0)
+  where
+    further : n < k → (k ≡ suc n → ⊥) → suc n < k
+    further l d = omega arith
+
+pub rest_none : (k : ℕ) → NoneUpTo 8 k → kind_of k ≡ None
+rest_none k r = ⊎_elim (λ z. ap kind_of z) (λ l. get_or-eq_default kinds None l) (beyond 8 k r)
 
 -- ---- a request's answer by its kind, as the code finds the kind of its number
 module _ (p : Policy) (q : Request) where
