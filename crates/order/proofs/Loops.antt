@@ -17,11 +17,11 @@ use Rattle.sets.proofs.Tests.{by_test, clash, not_so, same_test, and_i, and_l, a
 use Rattle.sets.proofs.Tests.{or_l, or_r, or_cases, or_given, or_false, or_fails, neg_i, neg_e, neg_fails}
 use Rattle.sets.proofs.Digits.{has_empty, has_below, has_beyond, none_beyond, lt_or_le}
 use Rattle.sets.proofs.Quantifiers.{any_of, any_at, any_fails}
-use Rattle.sets.proofs.Builders.{set_of_is}
+use Rattle.sets.proofs.Builders.{set_of_is, exactly_set}
 use Rattle.sets.proofs.Members.{Remaining, left_begin, left_turn, left_end, lowest_in, lowest_below}
 use Rattle.order.specs.Order.{senior, at_least, reaches, reached}
 use Rattle.order.specs.Rows.{Raised, Above}
-use Rattle.order.proofs.Lists.{senior_past}
+use Rattle.order.proofs.Lists.{Rows, senior_past, reaches_past}
 
 -- what is left is no more than there was
 pub left_lt : {P : ℕ → Type 0} (w all rest : ℕ) → Remaining P all rest → all < 2 ^ w → rest < 2 ^ w
@@ -82,6 +82,17 @@ unfolding reached reaches at_least
 reach_end js set down rest h l e =
     set_of_is 64 down _ l
     (λ b _. same_test _ _ (h.sound b)
+    (λ t. let r = any_at 64 _ t in
+    let m = and_l _ _ r.2 in
+    ⊎_elim (λ (u : eqb r.0 b ≡ true). h.own b (subst (λ (x : ℕ). has set x ≡ true) (eqb-true r.0 b u) m))
+    (λ (u : senior js r.0 b ≡ true). left_end _ set rest h.left e r.0 m b u) (or_cases _ _ (and_r _ _ r.2))))
+
+-- the same where each row is a set of roles: nothing is asked of the number that down is
+pub reach_rows : (js : List ℕ) → Rows js → (set down rest : ℕ) → Reaching js set down rest → rest ≡ 0 → down ≡ reached (senior js) set
+unfolding reached reaches at_least
+reach_rows js rows set down rest h e =
+    exactly_set 64 down _ (reaches_past js rows set)
+    (λ b. same_test _ _ (h.sound b)
     (λ t. let r = any_at 64 _ t in
     let m = and_l _ _ r.2 in
     ⊎_elim (λ (u : eqb r.0 b ≡ true). h.own b (subst (λ (x : ℕ). has set x ≡ true) (eqb-true r.0 b u) m))
