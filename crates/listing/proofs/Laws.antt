@@ -7,22 +7,23 @@ use mathlib.Core.List.{List, [], ◌++◌}
 use Prim.Native.Nat.{ℕ, zero, suc, ◌+◌, ◌*◌, ◌/◌, ◌%◌, ◌<◌, ◌≤◌}
 use native.Mathlib.Nat.{add-zero, zero-add}
 use native.Mathlib.Omega.{arith}
-use lib.Dec.{eqb, leb, ltb}
+use lib.Dec.{eqb, leb, ltb, lit<}
 use lib.ListN.{length, get_or, length-append}
-use borrow.Author.Tests.{eq-eqb, eqb-true, eqb-false, le-leb, lt-leb, lt-ltb, le-ltb, ltb-false}
+use borrow.Author.Tests.{eq-eqb, ne_eqb, eqb-true, eqb-false, le-leb, lt-leb, lt-ltb, le-ltb, ltb-false}
 use Rattle.sets.specs.Tests.{◌and◌, ◌or◌, neg, pick}
 use Rattle.sets.specs.Sets.{has, count, set_of, size, Exactly}
-use Rattle.sets.proofs.Tests.{by_test, clash, and_i, and_l, or_fails_l, or_fails_r, neg_i}
-use Rattle.sets.proofs.Digits.{has_bit}
+use Rattle.sets.proofs.Tests.{by_test, clash, and_i, and_l, and_given, and_fails_l, or_fails_l, or_fails_r, neg_i}
+use Rattle.sets.proofs.Digits.{has_bit, has_empty}
 use Rattle.sets.proofs.Quantifiers.{count_same, count_first, count_add}
-use Rattle.sets.proofs.Builders.{set_of_same, has-set_of}
+use Rattle.sets.proofs.Builders.{set_of_is, set_of_same, has-set_of}
 use Rattle.policy.specs.declared.Policy.{Policy}
 use Rattle.policy.specs.Outcome.{first}
+use Rattle.policy.proofs.Outcomes.{first_here}
 use Rattle.hierarchy.specs.declared.Site.{Site}
 use Rattle.order.specs.Rows.{Above}
 use Rattle.order.specs.Order.{senior, comparable, edge}
 use Rattle.hierarchy.specs.declared.HierarchyKind.{HierarchyKind}
-use Rattle.hierarchy.specs.declared.HierarchyKind.TheVariants.{CreateRole, DeleteRole, InsertEdge, DeleteEdge}
+use Rattle.hierarchy.specs.declared.HierarchyKind.TheVariants.{CreateRole, DeleteEdge}
 use Rattle.hierarchy.specs.Kinds.{kind_number}
 use Rattle.hierarchy.specs.Rules.{site, over, named, some_in, tied, tied_in, unknown_role, may_modify, delete_rules}
 use Rattle.hierarchy.proofs.Laws.{known_role, known_first, known_second}
@@ -96,26 +97,58 @@ site_rows p o j l =
     set_of_same 64 _ _
     (λ b h. sym (accepts_site p o (j % 64) b _ (has-set_of 64 (tied_in p) (j % 64) (omega arith)) (5 + j / 64) (omega arith) (omega arith)))
 
+-- kind 6 with b not 0 gives 1: so the set of the b with which it is accepted is {0} or empty
+module _ (s : Site) (names members : Bool) (a : ℕ) where
+  only_zero : (b : ℕ) → eqb (first (delete_rules s names members a b)) 0 ≡ (eqb b 0 and eqb (first (delete_rules s names members a 0)) 0)
+  unfolding delete_rules
+  only_zero b =
+      by_test (eqb b 0)
+      (λ t. rw (eqb-true b 0 t) (sym (and_given _ _ refl)))
+      (λ t. ap (λ (n : ℕ). eqb n 0) (sym (first_here _ 1 _ (neg_i _ t))) ∙ sym (and_fails_l _ _ t))
+
+  -- m is the outcome with b 0
+  module _ {m : ℕ} (e : m ≡ first (delete_rules s names members a 0)) where
+    pub delete_one : m ≡ 0 → 1 ≡ set_of 64 (λ b. eqb (first (delete_rules s names members a b)) 0)
+    delete_one z =
+        set_of_is 64 1 _ (lit< tt) (λ b l. has_bit 0 b ∙ sym (only_zero b ∙ both b (eq-eqb _ 0 (sym e ∙ z))))
+      where
+        both : (b : ℕ) {t : Bool} → t ≡ true → (eqb b 0 and t) ≡ eqb b 0
+        both b q = rw q (Rattle.sets.proofs.Tests.and_true _)
+
+    pub delete_none : (m ≡ 0 → ⊥) → 0 ≡ set_of 64 (λ b. eqb (first (delete_rules s names members a b)) 0)
+    delete_none z =
+        set_of_is 64 0 _ (lit< tt) (λ b l. has_empty b ∙ sym (only_zero b ∙ Rattle.sets.proofs.Tests.and_fails_r _ _ (ne_eqb _ 0 (λ q. z (e ∙ q)))))
+
 -- ---- the candidates: where a request would be accepted, there is something to do
 
--- a has to be in use, whatever the kind
-first_used : (s : Site) (tied : ℕ) (k : HierarchyKind) (a b : ℕ) → site_outcome s tied (kind_number k) a b ≡ 0 → has s.roles.used a ≡ true
+-- a has to be in use, whatever number the kind has: where it is none of 5 to 7, the outcome is that of 8
+pub first_used : (s : Site) (tied kind a b : ℕ) → site_outcome s tied kind a b ≡ 0 → has s.roles.used a ≡ true
 unfolding site_outcome
-first_used s tied CreateRole a b e = known_first s a b (create_ok s a b e).known
-first_used s tied DeleteRole a b e = known_role s a (delete_ok s _ _ a b e).known
-first_used s tied InsertEdge a b e = known_first s a b (insert_ok s a b e).known
-first_used s tied DeleteEdge a b e = known_first s a b (cut_ok s a b e).known
+first_used s tied kind a b e =
+    by_test (eqb kind 5) (λ t. known_first s a b (create_ok s a b (rw t at e)).known)
+    (λ n5. by_test (eqb kind 6) (λ t. known_role s a (delete_ok s _ _ a b (rw (n5, t) at e)).known)
+    (λ n6. by_test (eqb kind 7) (λ t. known_first s a b (insert_ok s a b (rw (n5, n6, t) at e)).known)
+    (λ n7. known_first s a b (cut_ok s a b (rw (n5, n6, n7) at e)).known)))
 
 -- the sets that are tried
-module _ (s : Site) (a : ℕ) where
-  pub none_to_do : (k : HierarchyKind) → has s.roles.used a ≡ false → ToDo s (kind_number k) a 0
-  none_to_do k n = record { each = λ tied b e. clash (first_used s tied k a b e) n }
+module _ (s : Site) (kind a : ℕ) where
+  pub none_to_do : has s.roles.used a ≡ false → ToDo s kind a 0
+  none_to_do n = record { each = λ tied b e. clash (first_used s tied kind a b e) n }
 
-  -- kinds 5 and 8 ask for a senior to b
-  pub juniors_to_do : (k : HierarchyKind) → (k ≡ CreateRole) ⊎ (k ≡ DeleteEdge) → ToDo s (kind_number k) a (get_or s.roles.juniors a 0)
+  -- all kinds but 6 and 7 ask for a senior to b
+  pub juniors_to_do : (kind ≡ 6 → ⊥) → (kind ≡ 7 → ⊥) → {r : ℕ} → r ≡ get_or s.roles.juniors a 0 → ToDo s kind a r
   unfolding senior site_outcome edge
-  juniors_to_do k (inl e) = rw e (record { each = λ tied b z. (create_ok s a b z).senior })
-  juniors_to_do k (inr e) = rw e (record { each = λ tied b z. and_l _ _ (cut_ok s a b z).joined })
+  juniors_to_do n6 n7 q = rw q (record {
+    each = λ tied b e.
+        by_test (eqb kind 5) (λ t. (create_ok s a b (rw t at e)).senior)
+        (λ n5. and_l _ _ (cut_ok s a b (rw (n5, ne_eqb kind 6 n6, ne_eqb kind 7 n7) at e)).joined);
+  })
+
+module _ (s : Site) (a : ℕ) where
+  -- kinds 5 and 8 by their names
+  pub senior_to_do : (k : HierarchyKind) → (k ≡ CreateRole) ⊎ (k ≡ DeleteEdge) → ToDo s (kind_number k) a (get_or s.roles.juniors a 0)
+  senior_to_do k (inl e) = rw e (juniors_to_do s 5 a (λ q. omega (arith, q)) (λ q. omega (arith, q)) refl)
+  senior_to_do k (inr e) = rw e (juniors_to_do s 8 a (λ q. omega (arith, q)) (λ q. omega (arith, q)) refl)
 
   pub delete_to_do : ToDo s 6 a 1
   unfolding site_outcome
