@@ -67,6 +67,33 @@ module _ (p : Policy) (o a b : ℕ) where
   unfolding rules_of
   accepts_delete = by_rules 6
 
+  -- kinds 5, 7 and 8 don't ask which roles are tied
+  module _ (tied : ℕ) where
+    pub accepts-create : accepts p o 5 a b ≡ eqb (site_outcome (site p o) tied 5 a b) 0
+    unfolding rules_of site_outcome
+    accepts-create = by_rules 5
+
+    pub accepts-insert : accepts p o 7 a b ≡ eqb (site_outcome (site p o) tied 7 a b) 0
+    unfolding rules_of site_outcome
+    accepts-insert = by_rules 7
+
+    pub accepts-cut : accepts p o 8 a b ≡ eqb (site_outcome (site p o) tied 8 a b) 0
+    unfolding rules_of site_outcome
+    accepts-cut = by_rules 8
+
+    pub accepts-site : (k : ℕ) → 5 ≤ k → k < 9 → (k ≡ 6 → ⊥) → accepts p o k a b ≡ eqb (site_outcome (site p o) tied k a b) 0
+    accepts-site k l m n =
+        by_test (eqb k 5) (λ t. at 5 t accepts-create)
+        (λ n5. by_test (eqb k 7) (λ t. at 7 t accepts-insert)
+        (λ n7. at 8 (eq-eqb k 8 (eight (eqb-false k 5 n5) (eqb-false k 7 n7))) accepts-cut))
+      where
+        at : (c : ℕ) → eqb k c ≡ true → accepts p o c a b ≡ eqb (site_outcome (site p o) tied c a b) 0
+            → accepts p o k a b ≡ eqb (site_outcome (site p o) tied k a b) 0
+        at c t h = rw (eqb-true k c t) h
+
+        eight : (k ≡ 5 → ⊥) → (k ≡ 7 → ⊥) → k ≡ 8
+        eight n5 n7 = omega arith
+
   -- tied says of a what 7 and 8 say of it
   module _ (tied : ℕ) (e : has tied a ≡ tied_in p a) where
     accepts_tied : accepts p o 6 a b ≡ eqb (first (delete_rules (site p o) (has tied a) false a b)) 0
@@ -76,19 +103,9 @@ module _ (p : Policy) (o a b : ℕ) where
         ∙ ap (λ (x : Bool). eqb (first (delete_rules (site p o) x false a b)) 0) (sym e)
 
     accepts_site : (k : ℕ) → 5 ≤ k → k < 9 → accepts p o k a b ≡ eqb (site_outcome (site p o) tied k a b) 0
-    unfolding rules_of site_outcome
+    unfolding site_outcome
     accepts_site k l m =
-        by_test (eqb k 5) (λ t. at 5 t (by_rules 5))
-        (λ n5. by_test (eqb k 6) (λ t. at 6 t accepts_tied)
-        (λ n6. by_test (eqb k 7) (λ t. at 7 t (by_rules 7))
-        (λ n7. at 8 (eq-eqb k 8 (eight (eqb-false k 5 n5) (eqb-false k 6 n6) (eqb-false k 7 n7))) (by_rules 8))))
-      where
-        at : (c : ℕ) → eqb k c ≡ true → accepts p o c a b ≡ eqb (site_outcome (site p o) tied c a b) 0
-            → accepts p o k a b ≡ eqb (site_outcome (site p o) tied k a b) 0
-        at c t h = rw (eqb-true k c t) h
-
-        eight : (k ≡ 5 → ⊥) → (k ≡ 6 → ⊥) → (k ≡ 7 → ⊥) → k ≡ 8
-        eight n5 n6 n7 = omega arith
+        by_test (eqb k 6) (λ t. rw (eqb-true k 6 t) accepts_tied) (λ n. accepts-site tied k l m (eqb-false k 6 n))
 
 -- the rows that are gathered
 pub site_rows : (p : Policy) (o j : ℕ) → j < 256 → site_set (site p o) (set_of 64 (tied_in p)) j ≡ accepted_set p o j
