@@ -2,22 +2,30 @@
 --   same_at, same_wider     where a role stands to another as before
 --   row_before              what is known of one of the rows
 --   ends_kept, members_kept, clear_of    the three parts of a row that is kept
+--   stay_begin, stay_turn, stay_end      the ranges that stay, row by row
+--   cut_found               two ranges that overlap in part, found in their sets
 -- Assumes nothing.
 use mathlib.Core.Path.{◌≡◌, refl, sym, ap, ◌∙◌}
 use mathlib.Core.Bool.{Bool, true, false}
 use mathlib.Core.List.{List}
-use Prim.Native.Nat.{ℕ, ◌^◌, ◌<◌}
+use Prim.Native.Nat.{ℕ, ◌+◌, ◌^◌, ◌≤◌, ◌<◌}
+use native.Mathlib.Nat.{not-suc-le-zero, lt_of_lt_of_le}
+use lib.Dec.{ltb}
 use lib.ListN.{length, get_or}
+use borrow.Author.Count.{below_more}
 use Rattle.sets.specs.Tests.{◌and◌, ◌or◌, neg, ◌iff◌}
-use Rattle.sets.specs.Sets.{has, Exactly, agreeing}
+use Rattle.sets.specs.Sets.{has, any, Exactly, agreeing}
 use Rattle.sets.proofs.Tests.{clash, not_so, and_i, or_fails_l, or_fails_r, neg_false, implies_e, iff_e}
 use Rattle.sets.proofs.Digits.{has_empty, has_below}
-use Rattle.sets.proofs.Quantifiers.{all_at}
+use Rattle.sets.proofs.Quantifiers.{all_at, any_same}
 use Rattle.order.specs.Order.{Relation, senior}
 use Rattle.order.specs.Rows.{Above}
 use Rattle.ranges.specs.declared.ModifyRow.{ModifyRow}
-use Rattle.ranges.specs.Rows.{row_at}
-use Rattle.ranges.specs.After.{SoundBefore, SameAt, SameOutside, RowBefore, EndsStay}
+use Rattle.ranges.specs.Ranges.{overlap_in_part}
+use Rattle.ranges.specs.Rows.{row_at, within, overlap}
+use Rattle.ranges.specs.After.{SoundBefore, SameAt, SameOutside, RowBefore, EndsStay, RangesStay}
+use Rattle.ranges.proofs.Laws.{overlap_same}
+use Rattle.ranges.proofs.Checks.{pairs_once}
 
 -- ---- the roles in which two sets differ
 pub one_of_two : (a b : Bool) → ((a and neg b) or (b and neg a)) ≡ neg (a iff b)
@@ -81,3 +89,24 @@ members_kept used s t p l e q r u = iff_e _ _ (implies_e _ _ (all_at 64 _ e r (h
 
 pub clear_of : (s t shared : ℕ) → Exactly shared (λ m. has s m and has t m) → shared ≡ 0 → (m : ℕ) → has t m ≡ true → has s m ≡ false
 clear_of s t shared e z m o = not_so _ (λ i. clash (and_i _ _ i o) (sym (e m) ∙ ap (λ (x : ℕ). has x m) z ∙ has_empty m))
+
+-- ---- the ranges that stay, row by row
+pub stay_begin : (f g : Relation) (rows : List ModifyRow) → RangesStay f g 0 rows
+stay_begin f g rows = record { stays = λ i l. absurd (not-suc-le-zero l) }
+
+pub stay_turn : (f g : Relation) (rows : List ModifyRow) (i : ℕ) → RangesStay f g i rows
+    → ((r : ℕ) → within g (row_at rows i) r ≡ within f (row_at rows i) r) → RangesStay f g (i + 1) rows
+stay_turn f g rows i h e = record { stays = below_more (λ n. (r : ℕ) → within g (row_at rows n) r ≡ within f (row_at rows n) r) i h.stays e }
+
+pub stay_end : (f g : Relation) (rows : List ModifyRow) (count i : ℕ) → count ≤ i → RangesStay f g i rows → RangesStay f g count rows
+stay_end f g rows count i l h = record { stays = λ n m. h.stays n (lt_of_lt_of_le m l) }
+
+-- ---- two ranges that overlap in part, found in their sets: of the first rows each has its range as a set
+pub cut_found : (g : Relation) (count : ℕ) (rows : List ModifyRow) (sets : List ℕ)
+    → ((i : ℕ) → i < count → Exactly (get_or sets i 0) (within g (row_at rows i)))
+    → any count (λ i. any count (λ j. ltb i j and overlap_in_part (has (get_or sets i 0)) (has (get_or sets j 0))))
+    ≡ any count (λ i. any count (λ j. overlap g (row_at rows i) (row_at rows j)))
+unfolding overlap
+cut_found g count rows sets h =
+    any_same count _ _ (λ i k. any_same count _ _ (λ j m. ap (λ (b : Bool). ltb i j and b) (overlap_same _ _ _ _ (h i k) (h j m))))
+    ∙ pairs_once g count rows
