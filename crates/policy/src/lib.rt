@@ -1,4 +1,4 @@
-// The policy: two orders, users, permissions and five tables, by value. It is changed by the builders below and by nothing else.
+// The policy: two orders, users, permissions and five tables. A request changes it by `changed` below and by nothing else; a file is read into its parts.
 #![tactic(auto)]
 
 ghost use Rattle.std.specs.Prelude.{◌≡◌, get_or, set};
