@@ -3,15 +3,17 @@
 --   row_before              what is known of one of the rows
 --   ends_kept, members_kept, clear_of    the three parts of a row that is kept
 --   stay_begin, stay_turn, stay_end      the ranges that stay, row by row
---   cut_found               two ranges that overlap in part, found in their sets
+--   cut_later, cut_found    two ranges that overlap in part, found in their sets
 -- Assumes nothing.
 use mathlib.Core.Path.{◌≡◌, refl, sym, ap, ◌∙◌}
 use mathlib.Core.Bool.{Bool, true, false}
 use mathlib.Core.List.{List}
 use Prim.Native.Nat.{ℕ, ◌+◌, ◌^◌, ◌≤◌, ◌<◌}
 use native.Mathlib.Nat.{not-suc-le-zero, lt_of_lt_of_le}
-use lib.Dec.{ltb}
-use lib.ListN.{length, get_or}
+use native.Mathlib.Numerals.{add-one}
+use lib.Dec.{leb, ltb}
+use lib.ListN.{length, get_or, take}
+use lib.Seq.{get_or-take, length-take-le}
 use borrow.Author.Count.{below_more}
 use Rattle.sets.specs.Tests.{◌and◌, ◌or◌, neg, ◌iff◌}
 use Rattle.sets.specs.Sets.{has, any, Exactly, agreeing}
@@ -23,7 +25,7 @@ use Rattle.order.specs.Rows.{Above}
 use Rattle.ranges.specs.declared.ModifyRow.{ModifyRow}
 use Rattle.ranges.specs.Ranges.{overlap_in_part}
 use Rattle.ranges.specs.Rows.{row_at, within, overlap}
-use Rattle.ranges.specs.After.{SoundBefore, SameAt, SameOutside, RowBefore, EndsStay, RangesStay}
+use Rattle.ranges.specs.After.{SoundBefore, SameAt, SameOutside, RowBefore, EndsStay, RangesStay, RangeSets, cut_from, some_cut}
 use Rattle.ranges.proofs.Laws.{overlap_same}
 use Rattle.ranges.proofs.Checks.{pairs_once}
 
@@ -101,12 +103,21 @@ stay_turn f g rows i h e = record { stays = below_more (λ n. (r : ℕ) → with
 pub stay_end : (f g : Relation) (rows : List ModifyRow) (count i : ℕ) → count ≤ i → RangesStay f g i rows → RangesStay f g count rows
 stay_end f g rows count i l h = record { stays = λ n m. h.stays n (lt_of_lt_of_le m l) }
 
--- ---- two ranges that overlap in part, found in their sets: of the first rows each has its range as a set
-pub cut_found : (g : Relation) (count : ℕ) (rows : List ModifyRow) (sets : List ℕ)
-    → ((i : ℕ) → i < count → Exactly (get_or sets i 0) (within g (row_at rows i)))
-    → any count (λ i. any count (λ j. ltb i j and overlap_in_part (has (get_or sets i 0)) (has (get_or sets j 0))))
-    ≡ any count (λ i. any count (λ j. overlap g (row_at rows i) (row_at rows j)))
-unfolding overlap
-cut_found g count rows sets h =
-    any_same count _ _ (λ i k. any_same count _ _ (λ j m. ap (λ (b : Bool). ltb i j and b) (overlap_same _ _ _ _ (h i k) (h j m))))
-    ∙ pairs_once g count rows
+-- ---- two ranges that overlap in part, found in their sets
+pub cut_later : (sets : List ℕ) (i : ℕ)
+    → cut_from sets (i + 1) (get_or sets i 0) ≡ any (length sets) (λ j. ltb i j and overlap_in_part (has (get_or sets i 0)) (has (get_or sets j 0)))
+unfolding cut_from
+cut_later sets i = any_same (length sets) _ _ (λ j l. ap (λ (n : ℕ). leb n j and overlap_in_part (has (get_or sets i 0)) (has (get_or sets j 0))) (add-one i))
+
+module _ (g : Relation) (count : ℕ) (rows : List ModifyRow) where
+  pub cut_found : (sets : List ℕ) → RangeSets g count rows sets → count ≤ length sets
+      → some_cut (take count sets) ≡ any count (λ i. any count (λ j. overlap g (row_at rows i) (row_at rows j)))
+  unfolding some_cut overlap
+  cut_found sets h l =
+      ap (λ (n : ℕ). any n (λ i. any n (λ j. ltb i j and overlap_in_part (has (get_or (take count sets) i 0)) (has (get_or (take count sets) j 0)))))
+      (length-take-le count sets l)
+      ∙ any_same count _ _ (λ i k. any_same count _ _ (λ j m. ap (λ (b : Bool). ltb i j and b) (overlap_same _ _ _ _ (taken i k) (taken j m))))
+      ∙ pairs_once g count rows
+    where
+      taken : (i : ℕ) → i < count → (r : ℕ) → has (get_or (take count sets) i 0) r ≡ within g (row_at rows i) r
+      taken i k r = ap (λ (x : ℕ). has x r) (get_or-take count sets i 0 k) ∙ h.ranges i k r

@@ -1,12 +1,12 @@
 -- What a chain of an iterator's methods finds, by places: a chain tests the items of a list or of a range, `any` and `least` test numbers.
---   any_places    some item of a list passes     any_below                    some number below one passes
+--   any_places    some item of a list passes     any_below, any_between       some number passes, from one on and below one
 --   first_place   the first item that passes     first_between, first_below   the first number that passes, from one on and below one
 -- Assumes nothing.
 use mathlib.Core.Path.{◌≡◌, refl, sym, ap, ◌∙◌}
 use mathlib.Core.Logic.{⊎_elim}
 use mathlib.Core.Bool.{Bool, true, false, ◌||◌}
 use mathlib.Core.List.{List, [], ◌∷◌}
-use Prim.Native.Nat.{ℕ, zero, suc, ◌-◌, ◌≤◌, ◌<◌, zero-le}
+use Prim.Native.Nat.{ℕ, zero, suc, ◌+◌, ◌-◌, ◌≤◌, ◌<◌, zero-le}
 use native.Mathlib.Nat.{le_refl}
 use native.Mathlib.Omega.{arith}
 use borrow.Author.Tests.{le-leb}
@@ -49,6 +49,18 @@ pub any_below : (test : ℕ → Bool) (w : ℕ) → list_any test (range_with_le
 any_below test w =
     any_places test 0 _ ∙ ap (λ (n : ℕ). any n (λ k. test (get_or (range_with_len 0 (w - 0)) k 0))) (length-range_with_len 0 (w - 0) ∙ omega arith)
     ∙ any_same w _ _ (λ k l. ap test (get_or-range_with_len 0 (w - 0) k 0 (omega arith) ∙ omega arith))
+
+pub any_between : (test : ℕ → Bool) (from w : ℕ) → list_any test (range_with_len from (w - from)) ≡ any w (λ k. leb from k and test k)
+any_between test from w =
+    any_places test 0 _
+    ∙ ap (λ (n : ℕ). any n (λ k. test (get_or (range_with_len from (w - from)) k 0))) (length-range_with_len from (w - from))
+    ∙ any_same (w - from) _ (λ k. test (from + k)) (λ k l. ap test (get_or-range_with_len from (w - from) k 0 l ∙ omega arith))
+    ∙ same_test _ _
+    (λ t. let r = any_at (w - from) _ t in any_of w _ (from + r.0) (omega (arith, r.1)) (and_i _ _ (le-leb _ _ (omega arith)) r.2))
+    (λ t. let r = any_at w _ t in
+    let l : from ≤ r.0 = leb-true from r.0 (and_l _ _ r.2) in
+    any_of (w - from) _ (r.0 - from) (omega (arith, r.1, l))
+    (ap test (let e : from + (r.0 - from) ≡ r.0 = omega (arith, l) in e) ∙ and_r _ _ r.2))
 
 -- ---- the first, and the width where none passes
 pub first_place : {X : Type 0} (test : X → Bool) (d : X) (xs : List X) (r : Option ℕ)

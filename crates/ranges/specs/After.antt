@@ -1,10 +1,11 @@
 -- A change of the order, where each row was sound before it: what is compared, so that few rows are tested whole.
 -- f says who is senior to whom before the change, and g after it.
-use Rattle.std.specs.Prelude.{◌≡◌, true, false, List, ℕ, ◌<◌, length}
-use Rattle.sets.specs.Sets.{has}
+use Rattle.std.specs.Prelude.{◌≡◌, Bool, true, false, List, ℕ, ◌<◌, leb, ltb, length, get_or}
+use Rattle.sets.specs.Tests.{◌and◌}
+use Rattle.sets.specs.Sets.{has, any, Exactly}
 use Rattle.order.specs.Order.{Relation, InUse}
 use Rattle.ranges.specs.declared.ModifyRow.{ModifyRow}
-use Rattle.ranges.specs.Ranges.{Encapsulated}
+use Rattle.ranges.specs.Ranges.{Encapsulated, overlap_in_part}
 use Rattle.ranges.specs.Rows.{row_at, within, SoundRows}
 
 -- what is asked of a change: before it pairs stood between roles in use and the rows were sound
@@ -43,3 +44,15 @@ pub record KeptRow (used : ℕ) (f g : Relation) (row : ModifyRow) (range outsid
 -- each row has the range that it had before
 pub record RangesStay (f g : Relation) (count : ℕ) (rows : List ModifyRow) : Type 0 where
   pub stays : (i : ℕ) → i < count → (r : ℕ) → within g (row_at rows i) r ≡ within f (row_at rows i) r
+
+-- the sets at the rows' places are their ranges
+pub record RangeSets (g : Relation) (count : ℕ) (rows : List ModifyRow) (sets : List ℕ) : Type 0 where
+  pub ranges : (i : ℕ) → i < count → Exactly (get_or sets i 0) (within g (row_at rows i))
+
+-- a set from a place on overlaps a range in part
+unfoldable pub cut_from : List ℕ → ℕ → ℕ → Bool
+cut_from sets from range = any (length sets) (λ j. leb from j and overlap_in_part (has range) (has (get_or sets j 0)))
+
+-- some set overlaps a later one in part
+unfoldable pub some_cut : List ℕ → Bool
+some_cut sets = any (length sets) (λ i. any (length sets) (λ j. ltb i j and overlap_in_part (has (get_or sets i 0)) (has (get_or sets j 0))))

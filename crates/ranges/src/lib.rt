@@ -10,7 +10,7 @@ ghost use Rattle.ranges.specs.declared.Look.TheVariants.{Either};
 ghost use Rattle.ranges.specs.Ranges.{in_range, encapsulated, parted, parted_by_ends, overlap_in_part};
 ghost use Rattle.ranges.specs.Rows.{row_at, within, low_not_junior, not_encapsulated, row_fails};
 ghost use Rattle.ranges.specs.Rows.{first_failing, overlap, overlap_from, first_overlap, unsound};
-ghost use Rattle.ranges.specs.After.{SameAt, SameOutside, SoundBefore, RowBefore, EndsStay, KeptRow, RangesStay};
+ghost use Rattle.ranges.specs.After.{SameAt, SameOutside, SoundBefore, RowBefore, EndsStay, KeptRow, RangesStay, RangeSets, cut_from, some_cut};
 
 use order::{Order, is_senior, juniors_of, seniors_of};
 use sets::{agree, both, has, lowest, minus, union, with, without_lowest};
@@ -243,6 +243,20 @@ pub fn is_unsound(rows: &[ModifyRow], order: &Order) -> bool
     Ranking::of(order, &seniors).spoils_some(rows)
 }
 
+// Does a set from a place on overlap a range in part?
+fn cut_from(sets: &[u64], from: usize, range: u64) -> bool
+    ensures { result ≡ cut_from sets.now from range }
+{
+    (from..sets.len()).any(|j| cut_across(range, sets[j]))
+}
+
+// Does some set overlap a later one in part?
+fn some_cut(sets: &[u64]) -> bool
+    ensures { result ≡ some_cut sets.now }
+{
+    (0..sets.len()).any(|i| cut_from(sets, i + 1, sets[i]))
+}
+
 // The roles that are in one of two sets and not in the other.
 fn difference(s: u64, t: u64) -> u64
     ensures { Exactly result (λ m. neg (has s m iff has t m)) }
@@ -343,12 +357,36 @@ impl<'a> Ranking<'a> {
         rows.iter().all(|row| self.range_stays(after, *row))
     }
 
+    // The range of each row, at the row's place.
+    fn range_sets(self, rows: &[ModifyRow]) -> [u64; 64]
+        requires { length rows.now ≤ 64 }
+        ensures { RangeSets (over self.entry) (length rows.now) rows.now result }
+    {
+        let mut sets = [0; 64];
+        for i in 0..rows.len() {
+            sets[i] = self.range_set(rows[i]);
+        }
+        sets
+    }
+
+    // Do two ranges overlap in part? Of the 64 rows that a policy has at most each range is found once, and not anew for each two.
+    fn two_cut(self, rows: &[ModifyRow]) -> bool
+        ensures { result ≡ any (length rows.now) (λ i. any (length rows.now) (λ j. overlap (over self.entry) (row_at rows.now i) (row_at rows.now j))) }
+    {
+        let count = rows.len();
+        if 64 < count {
+            return self.first_overlap(rows) < count;
+        }
+        let sets = self.range_sets(rows);
+        some_cut(&sets[..count])
+    }
+
     // Is some range unsound after a change, where each was sound before it? Two can overlap only where some range has changed.
     pub fn is_unsound_after(self, after: Ranking<'a>, rows: &[ModifyRow]) -> bool
         requires { SoundBefore rows.now self.used (over self) }
         ensures { result ≡ unsound after.entry.used (over after.entry) (length rows.now) rows.now }
     {
         self.some_fails_after(after, rows)
-            || (!self.ranges_stay(after, rows) && after.first_overlap(rows) < rows.len())
+            || (!self.ranges_stay(after, rows) && after.two_cut(rows))
     }
 }

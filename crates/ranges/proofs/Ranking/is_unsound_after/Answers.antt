@@ -1,7 +1,7 @@
 -- Assumes nothing.
 use mathlib.Core.Bool.{not}
 use mathlib.Core.Path.{sym, ap, ◌∙◌}
-use Rattle.ranges.proofs.Checks.{unsound_row, unsound_pair, unsound_stays}
+use Rattle.ranges.proofs.Checks.{overlap_found, unsound_row, unsound_pair, unsound_stays}
 use Rattle.ranges.proofs.Ranking.is_unsound_after.Goals as goal
 
 pub returns-then-some_fails_after : goal.returns-then-some_fails_after
@@ -11,7 +11,7 @@ returns-then-some_fails_after c =
 
 pub returns-then-not-ranges_stay : goal.returns-then-not-ranges_stay
 returns-then-not-ranges_stay c =
-    rw c.first_overlap.ensures (unsound_pair _ _ _ _ (sym c.some_fails_after.ensures ∙ c.if-some_fails_after.false))
+    c.two_cut.ensures ∙ sym (overlap_found _ _ _) ∙ unsound_pair _ _ _ _ (sym c.some_fails_after.ensures ∙ c.if-some_fails_after.false)
 
 pub returns-else-not-ranges_stay : goal.returns-else-not-ranges_stay
 returns-else-not-ranges_stay c =
