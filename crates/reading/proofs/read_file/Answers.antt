@@ -2,13 +2,11 @@
 use mathlib.Core.Path.{sym, ◌∙◌, ap}
 use Rattle.reader.specs.declared.Reader.{Reader}
 use Rattle.reading.specs.File.{rest_at}
-use Rattle.reading.proofs.Turns.{read_on, file_stops, judged_so, front_refused, rest_refused, file_passed, ranges_fit}
+use Rattle.reading.proofs.Turns.{read_on, file_stops, judged_so, rest_refused, file_passed, file_went, ranges_fit}
 use Rattle.reading.proofs.read_file.Goals as goal
 
 pub returns-in_err-r : goal.returns-in_err-r
-returns-in_err-r c =
-    let h = rw c.in_err-r.was at c.read_front.ensures in
-    file_stops _ _ _ c.from_residual.ensures.1 (front_refused _ (rw c.new.ensures at h))
+returns-in_err-r c = file_passed _ _ _ c.args.s _ c.new.ensures _ c.read_front.ensures (rw c.in_err-r.was c.from_residual.ensures.1)
 
 pub returns-in_err-end : goal.returns-in_err-end
 returns-in_err-end c =
@@ -26,4 +24,4 @@ returns c =
     let front = c.in_ok-r.ensures in
     let k = c.in_ok-end.ensures in
     let e = c.judge.ensures in
-    rw (file_passed c.args.s _ c.in_ok-r.r c.new.ensures front.0 front.1 k.1, k.2) (judged_so _ _ _ _ _ (rw k.2 at e))
+    rw (file_went c.args.s _ c.in_ok-r.r c.new.ensures front.0 front.1 k.1, k.2) (judged_so _ _ _ _ _ (rw k.2 at e))
