@@ -1,6 +1,6 @@
 // The records of the data files, as tests/README.md gives them. Of one that is cut short nothing is made, and nothing follows it.
-ghost use Rattle.std.specs.Prelude.{◌≡◌, ◌+◌, ◌<◌, length, IfSome};
-ghost use Rattle.vectors.specs.Numbers.{two_at, eight_at};
+ghost use Rattle.std.specs.Prelude.{◌≡◌, ◌+◌, ◌<◌, length, drop, IfSome, MatchOption};
+ghost use Rattle.vectors.specs.Numbers.{two_at, eight_at, IsLater};
 
 use crate::agree::{file_agrees, listing_agrees, request_agrees, table_agrees};
 use crate::tally::{Agreed, Row};
@@ -13,9 +13,9 @@ pub struct Ran<'a> {
     pub rest: &'a [u8],
 }
 
-// A number of two bytes, lowest first, and what follows it.
+// A number of two bytes, lowest first, and what follows it; none where they are too few.
 fn short(s: &[u8]) -> Option<(u16, &[u8])>
-    ensures { IfSome result (λ r. (r.0 ≡ two_at s.now 0) × (length r.1.now + 2 ≡ length s.now)) }
+    ensures { MatchOption result (length s.now < 2) (λ r. (r.0 ≡ two_at s.now 0) × (r.1.now ≡ drop 2 s.now) × (length r.1.now + 2 ≡ length s.now)) }
 {
     let (bytes, rest) = s.split_first_chunk::<2>()?;
     Some((u16::from_le_bytes(*bytes), rest))
@@ -23,7 +23,7 @@ fn short(s: &[u8]) -> Option<(u16, &[u8])>
 
 // The same of eight bytes.
 fn long(s: &[u8]) -> Option<(u64, &[u8])>
-    ensures { IfSome result (λ r. (r.0 ≡ eight_at s.now 0) × (length r.1.now + 8 ≡ length s.now)) }
+    ensures { MatchOption result (length s.now < 8) (λ r. (r.0 ≡ eight_at s.now 0) × (r.1.now ≡ drop 8 s.now) × (length r.1.now + 8 ≡ length s.now)) }
 {
     let (bytes, rest) = s.split_first_chunk::<8>()?;
     Some((u64::from_le_bytes(*bytes), rest))
@@ -31,7 +31,7 @@ fn long(s: &[u8]) -> Option<(u64, &[u8])>
 
 // Input length (2), outcome (1), place (2), the input.
 fn run_file(s: &[u8]) -> Option<Ran<'_>>
-    ensures { IfSome result (λ r. length r.rest.now < length s.now) }
+    ensures { IfSome result (λ r. IsLater r.rest.now s.now) }
 {
     let (n, s) = short(s)?;
     let (outcome, s) = s.split_first()?;
@@ -59,7 +59,7 @@ fn row_of(kind: u64) -> Row {
 
 // The request of four numbers, and what follows them.
 fn request_of(s: &[u8]) -> Option<(Request, &[u8])>
-    ensures { IfSome result (λ r. length r.1.now + 32 ≡ length s.now) }
+    ensures { MatchOption result (length s.now < 32) (λ r. (r.1.now ≡ drop 32 s.now) × (length r.1.now + 32 ≡ length s.now)) }
 {
     let (officer, s) = long(s)?;
     let (kind, s) = long(s)?;
@@ -78,7 +78,7 @@ fn request_of(s: &[u8]) -> Option<(Request, &[u8])>
 
 // Policy length (2), officer, kind, a, b (8 each), answer (8), the policy, the new file.
 fn run_request(s: &[u8]) -> Option<Ran<'_>>
-    ensures { IfSome result (λ r. length r.rest.now < length s.now) }
+    ensures { IfSome result (λ r. IsLater r.rest.now s.now) }
 {
     let (n, s) = short(s)?;
     let (q, s) = request_of(s)?;
@@ -99,7 +99,7 @@ fn run_request(s: &[u8]) -> Option<Ran<'_>>
 
 // Policy length (2), officer (8), answer (8), the policy, three bytes for each entry.
 fn run_listing(s: &[u8]) -> Option<Ran<'_>>
-    ensures { IfSome result (λ r. length r.rest.now < length s.now) }
+    ensures { IfSome result (λ r. IsLater r.rest.now s.now) }
 {
     let (n, s) = short(s)?;
     let (officer, s) = long(s)?;
@@ -120,7 +120,7 @@ fn run_listing(s: &[u8]) -> Option<Ran<'_>>
 
 // Policy length (2), table (8), answer (8), the policy.
 fn run_table(s: &[u8]) -> Option<Ran<'_>>
-    ensures { IfSome result (λ r. length r.rest.now < length s.now) }
+    ensures { IfSome result (λ r. IsLater r.rest.now s.now) }
 {
     let (n, s) = short(s)?;
     let (table, s) = long(s)?;
@@ -159,7 +159,7 @@ impl Records {
 
     // Runs the first record.
     pub fn run(self, s: &[u8]) -> Option<Ran<'_>>
-        ensures { IfSome result (λ r. length r.rest.now < length s.now) }
+        ensures { IfSome result (λ r. IsLater r.rest.now s.now) }
     {
         match self {
             Records::Files => run_file(s),
