@@ -14,8 +14,8 @@ use policy::{Policy, Refusal};
 use reading::FileError;
 use writing::write_policy;
 
-// Each in its bits: 0 to 7, 8 to 15, 16 to 31 and 32 to 63.
-fn pack(outcome: u64, number: u64, place: usize, length: usize) -> u64
+// Each in its bits: 0 to 7, 8 to 15, 16 to 31 and 32 to 63. Whoever has a refusal's number and place, and no error that holds them, has its answer here.
+pub fn pack(outcome: u64, number: u64, place: usize, length: usize) -> u64
     requires { Fit (fields outcome number place length) }
     ensures { result ≡ packed (fields outcome number place length) }
 {
