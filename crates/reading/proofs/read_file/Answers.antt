@@ -1,12 +1,14 @@
 -- Assumes nothing.
 use mathlib.Core.Path.{sym, ◌∙◌, ap}
+use Rattle.std.specs.Prelude.{Err}
 use Rattle.reader.specs.declared.Reader.{Reader}
 use Rattle.reading.specs.File.{rest_at}
 use Rattle.reading.proofs.Turns.{read_on, file_stops, judged_so, rest_refused, file_passed, file_went, ranges_fit}
 use Rattle.reading.proofs.read_file.Goals as goal
 
 pub returns-in_err-r : goal.returns-in_err-r
-returns-in_err-r c = file_passed _ _ _ c.args.s _ c.new.ensures _ c.read_front.ensures (rw c.in_err-r.was c.from_residual.ensures.1)
+returns-in_err-r c =
+    file_passed c.read_front.new.policy _ _ c.args.s _ c.new.ensures (Err _) (rw c.in_err-r.was at c.read_front.ensures) c.from_residual.ensures.1
 
 pub returns-in_err-end : goal.returns-in_err-end
 returns-in_err-end c =
