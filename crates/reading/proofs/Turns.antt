@@ -380,30 +380,32 @@ module _ (p : Policy) (z : Result ⊤ FileError) (x : File) where
   abbrev pub Judged : List ℕ → ℕ → Rest → Type 0
   Judged s end y = (as_how z ≡ judgement s end p.orders y.modify) × (x ≡ file (front_of p) y)
 
-  -- what the tables answer and what is looked at then; where the sections before them were refused, they are not read
-  abbrev pub RestAt : List ℕ → Result Reader NumberError → Type 0
-  RestAt s (Ok a) = TablesAt p.orders.roles.used p.orders.admins.used (λ n. Fails z (Number n)) s a.at (Judged s)
-  RestAt s (Err n) = Fails z (Number n)
+  module _ (roles admins : ℕ) where
+    -- what the tables answer and what is looked at then; where the sections before them were refused, they are not read
+    abbrev pub RestAt : List ℕ → Result Reader NumberError → Type 0
+    RestAt s (Ok a) = TablesAt roles admins (λ n. Fails z (Number n)) s a.at (Judged s)
+    RestAt s (Err n) = Fails z (Number n)
 
-  abbrev pub RestBy : Result Reader NumberError → Type 0
-  RestBy (Ok a) =
-      TablesBy p.orders.roles.used p.orders.admins.used (λ n. Fails z (Number n)) a (λ end. Judged end.bytes.now end.at)
-  RestBy (Err n) = Fails z (Number n)
+    abbrev pub RestBy : Result Reader NumberError → Type 0
+    RestBy (Ok a) = TablesBy roles admins (λ n. Fails z (Number n)) a (λ end. Judged end.bytes.now end.at)
+    RestBy (Err n) = Fails z (Number n)
 
-  -- what is answered of both
-  pub rest_joined : (s : List ℕ) (front : Result Reader NumberError) → RestAt s front → Rested (λ a. rest_on s a.at (front_of p)) front z x
-  rest_joined s (Err n) k = k
-  rest_joined s (Ok a) k =
-      tables_read p.orders.roles.used p.orders.admins.used _ s a.at (Judged s) k (λ n h q. file_stops x z n h (rw q))
-      (λ end y h q. rw (q, h.1) (judged_so s end (front_of p) y z h.0))
+    -- what is answered of both
+    pub rest_joined : (s : List ℕ) (front : Result Reader NumberError) → RestAt s front
+        → Rested (λ a. on_step (rest_at s roles admins a.at) (λ end y. judge s end (front_of p) y)) front z x
+    rest_joined s (Err n) k = k
+    rest_joined s (Ok a) k =
+        tables_read roles admins _ s a.at (Judged s) k (λ n h q. file_stops x z n h (rw q))
+        (λ end y h q. rw (q, h.1) (judged_so s end (front_of p) y z h.0))
 
-  -- the same of readers
-  pub rest_passed : (front : Result Reader NumberError) → RestBy front → Rested (λ a. rest_on a.bytes.now a.at (front_of p)) front z x
-  rest_passed (Err n) k = k
-  rest_passed (Ok a) k =
-      rest_joined a.bytes.now (Ok a)
-      (at_places p.orders.roles.used p.orders.admins.used _ a (λ end. Judged end.bytes.now end.at) (Judged a.bytes.now) refl k
-      (λ end y on h. (h.0 ∙ ap (λ (s : Bor (List ℕ)). judgement s.now end.at p.orders y.modify) on, h.1)))
+    -- the same of readers
+    pub rest_passed : (front : Result Reader NumberError) → RestBy front
+        → Rested (λ a. on_step (rest_at a.bytes.now roles admins a.at) (λ end y. judge a.bytes.now end (front_of p) y)) front z x
+    rest_passed (Err n) k = k
+    rest_passed (Ok a) k =
+        rest_joined a.bytes.now (Ok a)
+        (at_places roles admins _ a (λ end. Judged end.bytes.now end.at) (Judged a.bytes.now) refl k
+        (λ end y on h. (h.0 ∙ ap (λ (s : Bor (List ℕ)). judgement s.now end.at p.orders y.modify) on, h.1)))
 
   -- from the first byte to the last
   pub file_joined : (s : Bor (List ℕ)) (front : Result Reader NumberError) → FrontGiven (front_at s.now 0) s front p
